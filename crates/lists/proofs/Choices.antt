@@ -1,0 +1,78 @@
+-- Tests and choices taken apart. Assumes nothing.
+use Prim.Native.Nat.{ℕ, zero, suc, _≤_, _<_}
+use native.Mathlib.Omega.{arith}
+use lib.Dec.{eqb, leb}
+use lib.ListN.{length, drop, getD, drop-of-length-le}
+use lib.Seq.{drop-cons}
+use borrow.Author.Tests.{eqb-true, leb-true, le-leb, lt-leb}
+use mathlib.Core.Path.{_≡_, refl, sym}
+use mathlib.Core.Bool.{Bool, true, false, cond, not, _&&_}
+use mathlib.Core.List.{List, [], _∷_}
+use Rattle.lists.specs.Tests.{within, all}
+
+-- by the test's two results
+pub cond-case : {A : Type 0} (P : A → Type 0) (t : Bool) (a b : A) → (t ≡ true → P a) → (t ≡ false → P b) → P (cond t a b)
+cond-case P true a b f g = f refl
+cond-case P false a b f g = g refl
+
+-- one arm of a dispatch on a number
+pub cond-eq : {A : Type 0} (P : A → Type 0) (n k : ℕ) (a b : A) → (n ≡ k → P a) → P b → P (cond (eqb n k) a b)
+cond-eq P n k a b f g = cond-case P (eqb n k) a b (λ e. f (eqb-true n k e)) (λ _. g)
+
+pub and-left : (a b : Bool) → (a && b) ≡ true → a ≡ true
+and-left true b h = refl
+and-left false b h = h
+
+pub and-right : (a b : Bool) → (a && b) ≡ true → b ≡ true
+and-right true b h = h
+and-right false b h = cc
+
+module _ (low high x : ℕ) where
+  pub within-low : within low high x ≡ true → low ≤ x
+  unfolding within
+  within-low h = leb-true low x (and-left (leb low x) (leb x high) h)
+
+  pub within-high : within low high x ≡ true → x ≤ high
+  unfolding within
+  within-high h = leb-true x high (and-right (leb low x) (leb x high) h)
+
+  pub is-within : low ≤ x → x ≤ high → within low high x ≡ true
+  unfolding within
+  is-within l h = rw (le-leb low x l, le-leb x high h)
+
+  pub not-within : (low ≤ x → x ≤ high → ⊥) → within low high x ≡ false
+  unfolding within
+  not-within h = go (leb low x) (leb x high) refl refl
+    where
+      go : (a b : Bool) → leb low x ≡ a → leb x high ≡ b → (a && b) ≡ false
+      go true true p q = absurd (h (leb-true low x p) (leb-true x high q))
+      go true false p q = refl
+      go false b p q = refl
+
+-- of a list that passes whole, its first and its rest
+module _ {A : Type 0} (f : A → Bool) (x : A) (xs : List A) (h : all f (x ∷ xs) ≡ true) where
+  by-first : (b : Bool) → f x ≡ b → cond b (all f xs) false ≡ true → (f x ≡ true) × (all f xs ≡ true)
+  by-first true e k = (e, k)
+  by-first false e k = (cc, cc)
+
+  pub all-first : f x ≡ true
+  unfolding all
+  all-first = by-first (f x) refl h .0
+
+  pub all-rest : all f xs ≡ true
+  unfolding all
+  all-rest = by-first (f x) refl h .1
+
+-- one turn of a loop that tests each element, from how the list's first is taken
+module _ {A : Type 0} (f : A → Bool) where
+  pub all-goes : (l rest : List A) (x : A) → l ≡ x ∷ rest → f x ≡ true → all f rest ≡ all f l
+  unfolding all
+  all-goes l rest x q e = rw (q, e)
+
+  pub all-stops : (l rest : List A) (x : A) → l ≡ x ∷ rest → f x ≡ false → false ≡ all f l
+  unfolding all
+  all-stops l rest x q e = rw (q, e)
+
+  pub all-ends : (l : List A) → l ≡ [] → true ≡ all f l
+  unfolding all
+  all-ends l q = rw q

@@ -1,0 +1,46 @@
+-- One turn of a loop over chunks of any width, and its end. Assumes nothing.
+use Prim.Native.Nat.{ℕ, zero, suc, _+_, _-_, _/_, _<_, _≤_}
+use native.Mathlib.Omega.{arith}
+use native.Mathlib.Nat.{div-eq-sub-div, div-eq-of-lt}
+use native.Mathlib.Numerals.{add-one}
+use mathlib.Core.Path.{_≡_, refl, sym, ap, _∙_}
+use mathlib.Core.List.{List, [], _∷_, map}
+use lib.ListN.{length, take, drop, getD, length-drop}
+use lib.Seq.{drop-drop, drop-cons}
+use Rattle.lists.specs.Chunks.{chunks, chunksOf}
+use Rattle.lists.specs.Entries.{entries, entryOf}
+
+module _ {A : Type 0} (w : ℕ) (l : List A) where
+  -- a whole chunk stands at the front
+  chunks-first : 0 < w → w ≤ length l → chunks w l ≡ take w l ∷ chunks w (drop w l)
+  unfolding chunks chunksOf
+  chunks-first p h =
+      let more : length l / w ≡ suc ((length l - w) / w) = div-eq-sub-div p h ∙ add-one _ in
+      rw (more, length-drop w l)
+
+  chunks-short : length l < w → chunks w l ≡ []
+  unfolding chunks chunksOf
+  chunks-short h = rw (div-eq-of-lt h)
+
+module _ {A : Type 0} (w i : ℕ) (l : List A) where
+  -- from place i, one chunk and the rest
+  pub chunks-cons : 0 < w → i + w ≤ length l → chunks w (drop i l) ≡ take w (drop i l) ∷ chunks w (drop (i + w) l)
+  chunks-cons p h = chunks-first w (drop i l) p (simp length-drop (omega arith)) ∙ rw (drop-drop w i l)
+
+  -- less than a chunk is left
+  pub chunks-none : length l < i + w → 0 < w → chunks w (drop i l) ≡ []
+  chunks-none h p = chunks-short w (drop i l) (simp length-drop (omega arith))
+
+-- a chunk, byte by byte
+pub piece : {A : Type 0} (k i : ℕ) (l : List A) (d : A) → i < length l → take (suc k) (drop i l) ≡ getD l i d ∷ take k (drop (i + 1) l)
+piece k i l d h = rw (drop-cons l i d h, add-one)
+
+-- the same for entries
+module _ (w i : ℕ) (d : List ℕ) where
+  pub entries-cons : 0 < w → i + w ≤ length d → entries w (drop i d) ≡ entryOf (take w (drop i d)) ∷ entries w (drop (i + w) d)
+  unfolding entries
+  entries-cons p h = ap (map entryOf) (chunks-cons w i d p h)
+
+  pub entries-none : length d < i + w → 0 < w → entries w (drop i d) ≡ []
+  unfolding entries
+  entries-none h p = ap (map entryOf) (chunks-none w i d h p)

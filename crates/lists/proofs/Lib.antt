@@ -1,0 +1,6 @@
+pub mod Choices
+pub mod Done
+pub mod Walks
+pub mod ChunkLaws
+pub mod NumberLaws
+pub mod DataLaws

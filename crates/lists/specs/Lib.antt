@@ -1,0 +1,7 @@
+pub mod Tests
+pub mod Mapi
+pub mod Walk
+pub mod Numbers
+pub mod Chunks
+pub mod Entries
+pub mod Data

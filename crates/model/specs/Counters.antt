@@ -1,0 +1,167 @@
+-- 01, Counters over Spinel.
+use Prim.Native.Nat.{ℕ, _+_, _-_, _/_, _%_}
+use mathlib.Core.Bool.{Bool, true, false, cond, not, _&&_, _||_}
+use mathlib.Core.List.{List, [], _∷_, _++_, map, foldl, flatMap}
+use lib.ListN.{length, getD, set, replicate}
+use lib.Dec.{leb, eqb}
+use Rattle.lists.specs.Tests.{within, all}
+use Rattle.lists.specs.Walk.{allPass}
+use Rattle.lists.specs.Numbers.{bytes}
+use Rattle.lists.specs.Entries.{Entry, entries}
+use Rattle.model.specs.declared.Line.{Line}
+use Rattle.model.specs.declared.Inputs.{Inputs}
+use Rattle.model.specs.declared.Port.{Port}
+use Rattle.model.specs.declared.Module.{Module}
+use Rattle.model.specs.State.{line, freshOutput, permit, port, withSampling, withSpinel}
+use Rattle.model.specs.Samples.{places, counterBits, counterBytes}
+use Rattle.model.specs.Refusals.{Request, accepting, refuse8, refuse10, refuse11}
+
+-- "Numbers of inputs and outputs are 1 to 16, else 11"
+abbrev pub isNumber : ℕ → Bool
+isNumber n = within 1 places n
+
+-- a list has at most 12 items
+abbrev pub mostItems : ℕ
+mostItems = 12
+
+-- "1 to 12" items of w bytes each, and nothing over
+unfoldable pub itemsOf : ℕ → List ℕ → Bool
+itemsOf w d = eqb (length d % w) 0 && within 1 mostItems (length d / w)
+
+-- no data is named
+abbrev pub someData : List ℕ → Bool
+someData d = not (eqb (length d) 0)
+
+-- all sixteen numbers
+abbrev pub everyNumber : List ℕ
+everyNumber = 1 ∷ 2 ∷ 3 ∷ 4 ∷ 5 ∷ 6 ∷ 7 ∷ 8 ∷ 9 ∷ 10 ∷ 11 ∷ 12 ∷ 13 ∷ 14 ∷ 15 ∷ 16 ∷ []
+
+-- list read (01): "00 alone (all) or 1 to 12 numbers"
+unfoldable pub listed : List ℕ → List ℕ
+listed d = cond (eqb (length d) 1 && eqb (getD d 0 0) 0) everyNumber d
+
+-- a list read of the bytes that `show` gives for a number
+unfoldable pub listRead : {P : Type 0} → (ℕ → List ℕ) → List ℕ → P → Request P
+listRead show d p = refuse8 (not (itemsOf 1 d)) (refuse11 (not (all isNumber (listed d))) (accepting p (flatMap show (listed d))))
+
+-- 60H: read, and collect --------------------------------------------------------------
+
+-- "bit 7 set zeroes after reading, bit 6 is ignored, bits 5 to 0 are a number"
+abbrev pub zeroes : ℕ → Bool
+zeroes p = leb 128 p
+
+abbrev pub numberIn : ℕ → ℕ
+numberIn p = p % 64
+
+-- "0 alone means all"
+unfoldable pub parameters : List ℕ → List ℕ
+parameters d =
+    cond (eqb (length d) 1 && eqb (numberIn (getD d 0 0)) 0)
+    (cond (zeroes (getD d 0 0)) (map (λ n. 128 + n) everyNumber) everyNumber) d
+
+-- the copy after one parameter
+unfoldable pub readOne : List ℕ → ℕ → List ℕ
+readOne cs p = cond (zeroes p) (set cs (numberIn p - 1) 0) cs
+
+-- "Reply 10H, then two bytes each, as the copy then stands"
+unfoldable pub valuesRead : List ℕ → List ℕ → List ℕ
+valuesRead [] cs = []
+valuesRead (p ∷ ps) cs = bytes counterBytes (getD cs (numberIn p - 1) 0) ++ valuesRead ps (readOne cs p)
+
+unfoldable pub readCounters : List ℕ → List ℕ → Request (List ℕ)
+readCounters d cs =
+    refuse8 (not (itemsOf 1 d))
+    (refuse11 (not (all (λ p. isNumber (numberIn p)) (parameters d)))
+    (accepting (foldl readOne cs (parameters d)) (counterBits ∷ valuesRead (parameters d) cs)))
+
+-- 61H: deduct, or clear all ------------------------------------------------------------
+
+-- a deduction is not "above its counter", as the copy then stands
+unfoldable pub deductible : List ℕ → Entry → Bool
+deductible cs e = isNumber (e .number) && leb (e .value) (getD cs (e .number - 1) 0)
+
+unfoldable pub deductOne : List ℕ → Entry → List ℕ
+deductOne cs e = set cs (e .number - 1) (getD cs (e .number - 1) 0 - e .value)
+
+-- "Lists go left to right on a copy that replaces the state only if all is accepted"
+unfoldable pub deduct : List Entry → List ℕ → Request (List ℕ)
+deduct es cs = refuse11 (not (allPass deductible deductOne cs es)) (accepting (foldl deductOne cs es) [])
+
+-- cleared (01): the counters zeroed, nothing collected
+abbrev pub clearedCounters : List ℕ
+clearedCounters = replicate places 0
+
+unfoldable pub clearAll : ℕ → Request (List ℕ)
+clearAll b = refuse11 (not (eqb b 0)) (accepting clearedCounters [])
+
+-- "1 to 12 triples of number and two-byte amount .. or the one byte 00"
+unfoldable pub deductCounters : List ℕ → List ℕ → Request (List ℕ)
+deductCounters d cs =
+    cond (eqb (length d) 1) (clearAll (getD d 0 0))
+    (refuse8 (not (itemsOf (1 + counterBytes) d)) (deduct (entries (1 + counterBytes) d) cs))
+
+-- 6AH, 6BH: modes ------------------------------------------------------------------------
+
+unfoldable pub modeSettable : Entry → Bool
+modeSettable e = isNumber (e .number) && leb (e .value) 3
+
+unfoldable pub setMode : List ℕ → Entry → List ℕ
+setMode ms e = set ms (e .number - 1) (e .value)
+
+unfoldable pub setModes : List Entry → List ℕ → Request (List ℕ)
+setModes es ms = refuse11 (not (all modeSettable es)) (accepting (foldl setMode ms es) [])
+
+-- "1 to 12 pairs of number and mode"
+unfoldable pub setModesList : List ℕ → List ℕ → Request (List ℕ)
+setModesList d ms = refuse8 (not (itemsOf 2 d)) (setModes (entries 2 d) ms)
+
+-- "list read, one mode each"
+unfoldable pub modeShown : List ℕ → ℕ → List ℕ
+modeShown ms n = getD ms (n - 1) 0 ∷ []
+
+-- 62H, 63H: the sampling number, 1 to 255 ---------------------------------------------------
+
+unfoldable pub setSampling : List ℕ → Inputs → Request Inputs
+setSampling d x = refuse8 (not (eqb (length d) 1)) (refuse11 (not (within 1 255 (getD d 0 0))) (accepting (withSampling x (getD d 0 0)) []))
+
+unfoldable pub readSampling : {P : Type 0} → List ℕ → Inputs → P → Request P
+readSampling d x p = refuse8 (someData d) (accepting p (x .sampling ∷ []))
+
+-- E4H, E0H, F0H, E3H: permission, address and speed, reset -------------------------------------
+
+-- reset (01) of each part: "zeroes counters, runs, outputs and pulses, ends both permissions"; all else it keeps
+unfoldable pub resetInputs : Inputs → Inputs
+resetInputs x = record { lines = map (λ (y : Line). line (y .stable) 0) (x .lines); modes = x .modes; counters = clearedCounters; sampling = x .sampling }
+
+unfoldable pub reset : Module → Module
+reset m = record {
+  inputs = resetInputs (m .inputs);
+  outputs = replicate places freshOutput;
+  presets = m .presets;
+  thermostats = m .thermostats;
+  reading = m .reading;
+  last = m .last;
+  notice = m .notice;
+  spinel = permit false (m .spinel);
+  modbus = permit false (m .modbus);
+}
+
+-- "E4H gives a permission"; to FE it is refused 10
+unfoldable pub givePermission : Bool → List ℕ → Port → Request Port
+givePermission toAll d p = refuse8 (someData d) (refuse10 toAll (accepting (permit true p) []))
+
+-- E0H: "address 00 to FD, speed 00 to 0B", needs the permission, "then resets"
+unfoldable pub setPort : Bool → Bool → List ℕ → Module → Request Module
+setPort permitted toAll d m =
+    refuse8 (not (eqb (length d) 2))
+    (refuse10 (toAll || not permitted)
+    (refuse11 (not (within 0x00 0xFD (getD d 0 0) && within 0x00 0x0B (getD d 1 0)))
+    (accepting (reset (withSpinel m (port (getD d 0 0) (getD d 1 0) false))) [])))
+
+-- "F0H reads both"
+unfoldable pub readPort : {P : Type 0} → List ℕ → Port → P → Request P
+readPort d p q = refuse8 (someData d) (accepting q (p .address ∷ p .speed ∷ []))
+
+-- "E3H replies, then resets"
+unfoldable pub resetModule : List ℕ → Module → Request Module
+resetModule d m = refuse8 (someData d) (accepting (reset m) [])

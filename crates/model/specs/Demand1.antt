@@ -1,0 +1,105 @@
+-- Demand 1: the conditions of every call in checking order, and what is claimed of every state and call.
+use Prim.Native.Nat.{ℕ, _+_, _≤_}
+use mathlib.Core.Bool.{Bool, true, false}
+use mathlib.Core.List.{List, [], _∷_, _++_}
+use mathlib.Core.Path.{_≡_}
+use mathlib.Core.Logic.{_↔_}
+use lib.Dec.{eqb}
+use lib.ListN.{length, getD}
+use Rattle.lists.specs.Data.{over}
+use Rattle.model.specs.declared.Module.{Module}
+use Rattle.model.specs.Frames.{spinelTo, instructionOf, spinelBroadcast, modbusTo, functionOf, modbusBody, modbusBroadcast}
+use Rattle.model.specs.Refusals.{bufferShort, frameLengthWrong, shapeWrong, sumWrong, crcWrong, spinelAddressWrong, modbusAddressWrong, spinelBroadcastWrong, modbusBroadcastWrong, Request}
+use Rattle.model.specs.Spinel.{spinelAsked, spinelRequest, spinelUsed}
+use Rattle.model.specs.Modbus.{modbusAsked, modbusUsed}
+use Rattle.model.specs.Call.{Act, Call, sample, temperature, spinel, modbus}
+use Rattle.model.specs.Calls.{step}
+
+-- a refusal's number, and whether its condition holds
+pub record Check : Type 0 where
+  pub number : ℕ
+  pub holds : Bool
+
+abbrev pub check : ℕ → Bool → Check
+check n b = record { number = n; holds = b }
+
+-- 7 to 12
+unfoldable pub requestChecks : {P : Type 0} → Request P → List Check
+requestChecks q =
+    check 7 (q .unlisted)
+    ∷ check 8 (q .lengthWrong)
+    ∷ check 9 (q .rangeWrong)
+    ∷ check 10 (q .notPermitted)
+    ∷ check 11 (q .valueWrong)
+    ∷ check 12 (q .held)
+    ∷ []
+
+-- 2 to 6
+unfoldable pub spinelChecks : ℕ → List ℕ → List Check
+spinelChecks own f =
+    check 2 (frameLengthWrong 9 f)
+    ∷ check 3 (shapeWrong f)
+    ∷ check 4 (sumWrong f)
+    ∷ check 5 (spinelAddressWrong own (spinelTo f))
+    ∷ check 6 (spinelBroadcastWrong (spinelTo f) (instructionOf f))
+    ∷ []
+
+unfoldable pub modbusChecks : ℕ → List ℕ → List Check
+modbusChecks own f =
+    check 2 (frameLengthWrong 4 f)
+    ∷ check 4 (crcWrong f)
+    ∷ check 5 (modbusAddressWrong own (modbusTo f))
+    ∷ check 6 (modbusBroadcastWrong (modbusTo f) (functionOf f))
+    ∷ []
+
+-- all conditions of a call in the state m, in checking order
+unfoldable pub checks : Module → ℕ → Act → List Check
+checks m room (sample bits) = check 1 (bufferShort room) ∷ []
+checks m room (temperature good tenths) = []
+checks m room (spinel f) = check 1 (bufferShort room) ∷ spinelChecks (m .spinel .address) f ++ requestChecks (spinelAsked (spinelRequest f m) (spinelUsed m))
+checks m room (modbus f) = check 1 (bufferShort room) ∷ modbusChecks (m .modbus .address) f ++ requestChecks (modbusAsked (m .modbus .permitted) (functionOf f) (modbusBody f) (modbusUsed m))
+
+-- condition n holds, and no earlier one
+pub data RefusedBy (n : ℕ) : List Check → Type 0 where
+  here : (c : Check) (cs : List Check) → c .number ≡ n → c .holds ≡ true → RefusedBy n (c ∷ cs)
+  later : (c : Check) (cs : List Check) → c .holds ≡ false → RefusedBy n cs → RefusedBy n (c ∷ cs)
+
+-- no condition holds
+pub data NoneHolds : List Check → Type 0 where
+  none : NoneHolds []
+  also : (c : Check) (cs : List Check) → c .holds ≡ false → NoneHolds cs → NoneHolds (c ∷ cs)
+
+-- the state with the permission of the call's port ended
+unfoldable pub permissionEnded : Act → Module → Module
+permissionEnded (sample bits) m = m
+permissionEnded (temperature good tenths) m = m
+permissionEnded (spinel f) m = spinelUsed m
+permissionEnded (modbus f) m = modbusUsed m
+
+unfoldable pub isBroadcast : Act → Bool
+isBroadcast (sample bits) = false
+isBroadcast (temperature good tenths) = false
+isBroadcast (spinel f) = eqb (spinelTo f) spinelBroadcast
+isBroadcast (modbus f) = eqb (modbusTo f) modbusBroadcast
+
+-- what holds of a call c in a state m, whatever the state, the frame, the sample and the buffer
+pub record Refusals (m : Module) (c : Call) : Type 0 where
+  -- refused by n exactly when condition n holds and no earlier one; accepted exactly when none holds
+  pub exactly : (n : ℕ) → 1 ≤ n → (step m c .refusal ≡ n) ↔ RefusedBy n (checks m (c .room) (c .act))
+  pub accepted : (step m c .refusal ≡ 0) ↔ NoneHolds (checks m (c .room) (c .act))
+  pub most : step m c .refusal ≤ 12
+  -- 1 to 6: the state is the state before, the reply's length 0
+  pub early : 1 ≤ step m c .refusal → step m c .refusal ≤ 6 → (step m c .after ≡ m) × (step m c .reply ≡ [])
+  -- 7 to 12: it differs at most in that port's permission, which has ended
+  pub late : 7 ≤ step m c .refusal → step m c .after ≡ permissionEnded (c .act) m
+  -- "all refused broadcasts, have length 0"
+  pub broadcast : 1 ≤ step m c .refusal → isBroadcast (c .act) ≡ true → step m c .reply ≡ []
+  -- a reply of length 0 leaves a lent buffer as it was
+  pub untouched : (old : List ℕ) → step m c .reply ≡ [] → over (step m c .reply) old ≡ old
+  -- "Bytes beyond the reply length are never touched"
+  pub beyond : (old : List ℕ) (i : ℕ) → getD (over (step m c .reply) old) (length (step m c .reply) + i) 0 ≡ getD old (length (step m c .reply) + i) 0
+  -- a reply fits the least buffer that is not refused
+  pub fits : length (step m c .reply) ≤ 256
+
+abbrev pub RefusalsHold : Type 0
+RefusalsHold = (m : Module) (c : Call) → Refusals m c

@@ -1,0 +1,95 @@
+-- 01, Frames. A frame is the list of its bytes.
+use Prim.Native.Nat.{ℕ, zero, suc, _+_, _-_, _/_, _%_}
+use mathlib.Core.Bool.{cond}
+use mathlib.Core.List.{List, [], _∷_, _++_, foldl}
+use lib.Bits.{bitXor}
+use lib.Dec.{eqb, leb}
+use lib.ListN.{length, getD, take, drop}
+use Rattle.lists.specs.Numbers.{wordAt, bytes}
+
+-- Spinel: 2A 61, NUM, address, signature, instruction, data, SUM, 0D ---------------
+
+unfoldable pub total : List ℕ → ℕ
+total [] = 0
+total (b ∷ bs) = b + total bs
+
+-- SUM (01): "255 minus the sum, modulo 256, of all bytes before it"
+abbrev pub sumOf : List ℕ → ℕ
+sumOf bs = 255 - total bs % 256
+
+-- NUM (01): "2 bytes, count of bytes after it"
+abbrev pub numOf : List ℕ → ℕ
+numOf f = wordAt f 2
+
+abbrev pub spinelTo : List ℕ → ℕ
+spinelTo f = getD f 4 0
+
+abbrev pub signatureOf : List ℕ → ℕ
+signatureOf f = getD f 5 0
+
+abbrev pub instructionOf : List ℕ → ℕ
+instructionOf f = getD f 6 0
+
+-- all between instruction and SUM
+abbrev pub spinelData : List ℕ → List ℕ
+spinelData f = take (length f - 9) (drop 7 f)
+
+-- "FE is the universal address, FF the broadcast"
+abbrev pub universal : ℕ
+universal = 0xFE
+
+abbrev pub spinelBroadcast : ℕ
+spinelBroadcast = 0xFF
+
+-- bytes, then their SUM and 0D
+abbrev pub closed : List ℕ → List ℕ
+closed bs = bs ++ sumOf bs ∷ 0x0D ∷ []
+
+-- a reply: "the module's address, the request's signature and an ACK for the instruction", then data
+unfoldable pub spinelReply : ℕ → ℕ → ℕ → List ℕ → List ℕ
+spinelReply address signature ack data′ = closed (0x2A ∷ 0x61 ∷ bytes 2 (length data′ + 5) ++ address ∷ signature ∷ ack ∷ data′)
+
+-- Modbus: address, function, body, CRC -----------------------------------------------
+
+-- one bit, the lowest first: where it is 1, exclusive or with the reflected polynomial A001H
+unfoldable pub crcBit : ℕ → ℕ
+crcBit c = cond (eqb (c % 2) 1) (bitXor (c / 2) 0xA001) (c / 2)
+
+unfoldable pub crcBits : ℕ → ℕ → ℕ
+crcBits zero c = c
+crcBits (suc n) c = crcBits n (crcBit c)
+
+unfoldable pub crcByte : ℕ → ℕ → ℕ
+crcByte c b = crcBits 8 (bitXor c b)
+
+-- CRC (01): "start FFFFH, reflected polynomial A001H"
+unfoldable pub crcOf : List ℕ → ℕ
+crcOf bs = foldl crcByte 0xFFFF bs
+
+abbrev pub modbusTo : List ℕ → ℕ
+modbusTo f = getD f 0 0
+
+abbrev pub functionOf : List ℕ → ℕ
+functionOf f = getD f 1 0
+
+-- all between function and CRC
+abbrev pub modbusBody : List ℕ → List ℕ
+modbusBody f = take (length f - 4) (drop 2 f)
+
+-- "Address 0 is the broadcast"
+abbrev pub modbusBroadcast : ℕ
+modbusBroadcast = 0
+
+-- bytes, then their CRC, low byte first
+unfoldable pub withCrc : List ℕ → List ℕ
+withCrc bs = bs ++ crcOf bs % 256 ∷ crcOf bs / 256 ∷ []
+
+abbrev pub modbusReply : ℕ → ℕ → List ℕ → List ℕ
+modbusReply address function body = withCrc (address ∷ function ∷ body)
+
+-- "An exception reply has the function with bit 7 set (80H and up stay) and a code"
+abbrev pub exceptionFunction : ℕ → ℕ
+exceptionFunction function = cond (leb 128 function) function (function + 128)
+
+abbrev pub exceptionReply : ℕ → ℕ → ℕ → List ℕ
+exceptionReply address function code = modbusReply address (exceptionFunction function) (code ∷ [])

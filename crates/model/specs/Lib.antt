@@ -1,0 +1,15 @@
+pub mod State
+pub mod Times
+pub mod Samples
+pub mod Frames
+pub mod Refusals
+pub mod Counters
+pub mod Temperature
+pub mod Outputs
+pub mod Notice
+pub mod Registers
+pub mod Spinel
+pub mod Modbus
+pub mod Call
+pub mod Calls
+pub mod Demand1

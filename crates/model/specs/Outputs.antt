@@ -1,0 +1,135 @@
+-- 01, Outputs and notice: the outputs.
+use Prim.Native.Nat.{ℕ, _+_, _-_, _/_, _%_}
+use mathlib.Core.Bool.{Bool, true, false, cond, not, _&&_, _||_}
+use mathlib.Core.List.{List, [], _∷_, map, foldl}
+use lib.ListN.{length, getD, set, drop}
+use lib.Dec.{ltb, eqb}
+use Rattle.lists.specs.Tests.{within, all}
+use Rattle.lists.specs.Numbers.{bytes, bitsNumber}
+use Rattle.lists.specs.Chunks.{chunks}
+use Rattle.lists.specs.Entries.{Entry, entry}
+use Rattle.model.specs.declared.Output.{Output}
+use Rattle.model.specs.declared.HalfSeconds.{HalfSeconds}
+use Rattle.model.specs.declared.Preset.{Preset}
+use Rattle.model.specs.declared.Thermostat.{Thermostat}
+use Rattle.model.specs.declared.Reading.{Reading}
+use Rattle.model.specs.State.{output, halfSeconds, preset, freshOutput, freshPreset, freshThermostat}
+use Rattle.model.specs.Times.{halfSecondSamples}
+use Rattle.model.specs.Refusals.{Request, accepting, refuse8, refuse11, refuse12}
+use Rattle.model.specs.Counters.{isNumber, itemsOf, someData}
+use Rattle.model.specs.Temperature.{active, freeAt}
+
+-- Pulses ------------------------------------------------------------------------------
+
+-- one sample of an output: at a pulse's last sample it "turns opposite"
+unfoldable pub pulsed : Output → Output
+pulsed o =
+    cond (eqb (o .left) 0) o
+    (cond (eqb (o .left) 1) (output (not (o .on)) 0)
+    (output (o .on) (o .left - 1)))
+
+-- remaining time (01): "in half seconds rounded up, 0 without a pulse, 255 where it is more"
+unfoldable pub remaining : ℕ → ℕ
+remaining left = cond (ltb 255 ((left + 499) / 500)) 255 ((left + 499) / 500)
+
+-- Setting outputs -----------------------------------------------------------------------
+
+-- set byte (01): "bit 7 (on) and output 1 to 16"; as an entry, the value 1 for on
+unfoldable pub setByte : ℕ → Entry
+setByte b = entry (b % 128) (b / 128)
+
+abbrev pub turnsOn : Entry → Bool
+turnsOn e = eqb (e .value) 1
+
+abbrev pub numberFits : Entry → Bool
+numberFits e = isNumber (e .number)
+
+-- a set "ends the pulse"
+unfoldable pub setOutput : List Output → Entry → List Output
+setOutput os e = set os (e .number - 1) (output (turnsOn e) 0)
+
+-- a pulse of so many samples from the state it first takes
+unfoldable pub startPulse : HalfSeconds → List Output → Entry → List Output
+startPulse time os e = set os (e .number - 1) (output (turnsOn e) (halfSecondSamples time))
+
+-- the outputs of some entries, none held, after `act`
+unfoldable pub actOn : (List Output → Entry → List Output) → Reading → List Thermostat → List Entry → List Output → Request (List Output)
+actOn act r hs es os =
+    refuse11 (not (all numberFits es))
+    (refuse12 (not (all (λ e. freeAt r hs (e .number)) es))
+    (accepting (foldl act os es) []))
+
+-- "20H takes 1 to 12" set bytes
+unfoldable pub setOutputs : Reading → List Thermostat → List ℕ → List Output → Request (List Output)
+setOutputs r hs d os = refuse8 (not (itemsOf 1 d)) (actOn setOutput r hs (map setByte d) os)
+
+-- pulses of one time, which is "1 to 255 half seconds"
+unfoldable pub pulseOutputs : HalfSeconds → Reading → List Thermostat → List Entry → List Output → Request (List Output)
+pulseOutputs time r hs es os =
+    refuse11 (not (within 1 255 (time .0))) (actOn (startPulse time) r hs es os)
+
+-- "23H: time, then 1 to 12" set bytes
+unfoldable pub setPulses : Reading → List Thermostat → List ℕ → List Output → Request (List Output)
+setPulses r hs d os = refuse8 (not (itemsOf 1 (drop 1 d))) (pulseOutputs (halfSeconds (getD d 0 0)) r hs (map setByte (drop 1 d)) os)
+
+-- Presets -----------------------------------------------------------------------------
+
+-- output, "type (0 none, 2 positive: on first, 3 negative: off first)", time
+unfoldable pub presetSettable : List ℕ → Bool
+presetSettable c =
+    isNumber (getD c 0 0)
+    && (eqb (getD c 1 0) 0
+    || ((eqb (getD c 1 0) 2 || eqb (getD c 1 0) 3) && within 1 255 (getD c 2 0)))
+
+unfoldable pub setPreset : List Preset → List ℕ → List Preset
+setPreset ps c = set ps (getD c 0 0 - 1) (preset (getD c 1 0) (getD c 2 0))
+
+-- "26H: 1 to 12 triples"
+unfoldable pub setPresets : List ℕ → List Preset → Request (List Preset)
+setPresets d ps = refuse8 (not (itemsOf 3 d)) (refuse11 (not (all presetSettable (chunks 3 d))) (accepting (foldl setPreset ps (chunks 3 d)) []))
+
+abbrev pub presetOf : List Preset → ℕ → Preset
+presetOf ps n = getD ps (n - 1) freshPreset
+
+-- one preset started; a type other than 0, 2 and 3 would start off first
+unfoldable pub startPreset : List Preset → List Output → ℕ → List Output
+startPreset ps os n = set os (n - 1) (output (eqb (presetOf ps n .kind) 2) (halfSecondSamples (presetOf ps n .time)))
+
+-- "25H starts 1 to 12 presets, type 0 is refused 11"
+unfoldable pub presetReady : List Preset → ℕ → Bool
+presetReady ps n = isNumber n && not (eqb (presetOf ps n .kind) 0)
+
+unfoldable pub startPresets : List Preset → Reading → List Thermostat → List ℕ → List Output → Request (List Output)
+startPresets ps r hs d os =
+    refuse8 (not (itemsOf 1 d))
+    (refuse11 (not (all (presetReady ps) d))
+    (refuse12 (not (all (freeAt r hs) d))
+    (accepting (foldl (startPreset ps) os d) [])))
+
+-- Reading outputs -----------------------------------------------------------------------
+
+-- 33H: "set byte, remaining time"
+unfoldable pub pulseShown : List Output → ℕ → List ℕ
+pulseShown os n =
+    let o = getD os (n - 1) freshOutput in
+    (cond (o .on) 128 0 + n) ∷ remaining (o .left) ∷ []
+
+-- 36H: "type and time"
+unfoldable pub presetShown : List Preset → ℕ → List ℕ
+presetShown ps n = presetOf ps n .kind ∷ presetOf ps n .time .0 ∷ []
+
+-- 38H: "A0H + the flags' SSK moved to bits 2 to 0 where F is 1, else the type"
+unfoldable pub modeByte : List Thermostat → List Preset → ℕ → List ℕ
+modeByte hs ps n =
+    let h = getD hs (n - 1) freshThermostat in
+    cond (active h) (0xA0 + h .flags / 16 % 8) (presetOf ps n .kind) ∷ []
+
+abbrev pub outputStates : List Output → List Bool
+outputStates os = map (λ (o : Output). o .on) os
+
+-- 30H, 31H: "two bytes, lowest numbers last"
+abbrev pub statesShown : List Bool → List ℕ
+statesShown bs = bytes 2 (bitsNumber bs)
+
+unfoldable pub readStates : {P : Type 0} → List ℕ → List Bool → P → Request P
+readStates d bs p = refuse8 (someData d) (accepting p (statesShown bs))

@@ -1,0 +1,158 @@
+-- 01, Why a call is refused, in checking order: each condition by its name.
+use Prim.Native.Nat.{ℕ, zero, suc, _-_, _/_, _%_}
+use mathlib.Core.Bool.{Bool, true, false, cond, not, _&&_, _||_}
+use mathlib.Core.List.{List, [], _∷_}
+use lib.ListN.{length, getD, take}
+use lib.Dec.{ltb, leb, eqb}
+use Rattle.lists.specs.Tests.{within}
+use Rattle.model.specs.declared.Module.{Module}
+use Rattle.model.specs.Frames.{sumOf, numOf, spinelTo, instructionOf, universal, spinelBroadcast, crcOf, modbusTo, functionOf, modbusBroadcast}
+
+-- 1. "The lent reply buffer has fewer than 256 bytes"
+abbrev pub bufferShort : ℕ → Bool
+bufferShort room = ltb room 256
+
+-- 2. "A Spinel frame has under 9 or over 256 bytes, a Modbus frame under 4 or over 256"
+abbrev pub frameLengthWrong : ℕ → List ℕ → Bool
+frameLengthWrong least f = not (within least 256 (length f))
+
+-- 3. "A Spinel frame lacks 2A 61, a final 0D, or a NUM equal to its length minus 4"
+unfoldable pub shapeWrong : List ℕ → Bool
+shapeWrong f =
+    not (eqb (getD f 0 0) 0x2A
+    && (eqb (getD f 1 0) 0x61
+    && (eqb (getD f (length f - 1) 0) 0x0D
+    && eqb (numOf f) (length f - 4))))
+
+-- 4. "SUM or CRC is wrong": the last byte but one; the last two, low byte first
+unfoldable pub sumWrong : List ℕ → Bool
+sumWrong f = not (eqb (getD f (length f - 2) 0) (sumOf (take (length f - 2) f)))
+
+unfoldable pub crcWrong : List ℕ → Bool
+crcWrong f =
+    not (eqb (getD f (length f - 2) 0) (crcOf (take (length f - 2) f) % 256)
+    && eqb (getD f (length f - 1) 0) (crcOf (take (length f - 2) f) / 256))
+
+-- 5. "The address is neither the module's own nor one of that port's special ones"
+unfoldable pub spinelAddressWrong : ℕ → ℕ → Bool
+spinelAddressWrong own to = not (eqb to own || (eqb to universal || eqb to spinelBroadcast))
+
+unfoldable pub modbusAddressWrong : ℕ → ℕ → Bool
+modbusAddressWrong own to = not (eqb to own || eqb to modbusBroadcast)
+
+-- 6. "A broadcast carries anything but Spinel 20H, 23H, 25H or Modbus 05, 0F"
+unfoldable pub spinelBroadcastWrong : ℕ → ℕ → Bool
+spinelBroadcastWrong to i = eqb to spinelBroadcast && not (eqb i 0x20 || (eqb i 0x23 || eqb i 0x25))
+
+unfoldable pub modbusBroadcastWrong : ℕ → ℕ → Bool
+modbusBroadcastWrong to fn = eqb to modbusBroadcast && not (eqb fn 0x05 || eqb fn 0x0F)
+
+-- 2 to 6 of a frame for the port with address own: the first that holds, or 0
+unfoldable pub spinelFrameRefusal : ℕ → List ℕ → ℕ
+spinelFrameRefusal own f =
+    cond (frameLengthWrong 9 f) 2
+    (cond (shapeWrong f) 3
+    (cond (sumWrong f) 4
+    (cond (spinelAddressWrong own (spinelTo f)) 5
+    (cond (spinelBroadcastWrong (spinelTo f) (instructionOf f)) 6 0))))
+
+unfoldable pub modbusFrameRefusal : ℕ → List ℕ → ℕ
+modbusFrameRefusal own f =
+    cond (frameLengthWrong 4 f) 2
+    (cond (crcWrong f) 4
+    (cond (modbusAddressWrong own (modbusTo f)) 5
+    (cond (modbusBroadcastWrong (modbusTo f) (functionOf f)) 6 0)))
+
+-- A request that has passed 1 to 6, on the part P of the state that it may change: which of 7 to 12 hold, and what it comes to where none does.
+pub record Request (P : Type 0) : Type 0 where
+  -- 7. "The instruction or function isn't on this page"
+  pub unlisted : Bool
+  -- 8. "The data length (none where no data is named), byte count or the function's quantity isn't one allowed below"
+  pub lengthWrong : Bool
+  -- 9. "A Modbus address range isn't wholly in one group open to that function, or breaks that group's own count or alignment"
+  pub rangeWrong : Bool
+  -- 10. "The call needs a configuration permission it lacks, or E4H or E0H came to FE"
+  pub notPermitted : Bool
+  -- 11. "A number or value is outside its stated range, or a deduction is above its counter"
+  pub valueWrong : Bool
+  -- 12. "A thermostat holds the output"
+  pub held : Bool
+  -- the part after it
+  pub after : P
+  -- the reply's data or body
+  pub reply : List ℕ
+
+-- what nothing stands against
+abbrev pub accepting : {P : Type 0} → P → List ℕ → Request P
+accepting p d = record { unlisted = false; lengthWrong = false; rangeWrong = false; notPermitted = false; valueWrong = false; held = false; after = p; reply = d }
+
+abbrev pub notListed : {P : Type 0} → P → Request P
+notListed p = record { unlisted = true; lengthWrong = false; rangeWrong = false; notPermitted = false; valueWrong = false; held = false; after = p; reply = [] }
+
+-- the same request, refused by 8, .., 12 also where the test holds
+
+abbrev pub refuse8 : {P : Type 0} → Bool → Request P → Request P
+refuse8 b q = record { unlisted = q .unlisted; lengthWrong = q .lengthWrong || b; rangeWrong = q .rangeWrong; notPermitted = q .notPermitted; valueWrong = q .valueWrong; held = q .held; after = q .after; reply = q .reply }
+
+abbrev pub refuse9 : {P : Type 0} → Bool → Request P → Request P
+refuse9 b q = record { unlisted = q .unlisted; lengthWrong = q .lengthWrong; rangeWrong = q .rangeWrong || b; notPermitted = q .notPermitted; valueWrong = q .valueWrong; held = q .held; after = q .after; reply = q .reply }
+
+abbrev pub refuse10 : {P : Type 0} → Bool → Request P → Request P
+refuse10 b q = record { unlisted = q .unlisted; lengthWrong = q .lengthWrong; rangeWrong = q .rangeWrong; notPermitted = q .notPermitted || b; valueWrong = q .valueWrong; held = q .held; after = q .after; reply = q .reply }
+
+abbrev pub refuse11 : {P : Type 0} → Bool → Request P → Request P
+refuse11 b q = record { unlisted = q .unlisted; lengthWrong = q .lengthWrong; rangeWrong = q .rangeWrong; notPermitted = q .notPermitted; valueWrong = q .valueWrong || b; held = q .held; after = q .after; reply = q .reply }
+
+abbrev pub refuse12 : {P : Type 0} → Bool → Request P → Request P
+refuse12 b q = record { unlisted = q .unlisted; lengthWrong = q .lengthWrong; rangeWrong = q .rangeWrong; notPermitted = q .notPermitted; valueWrong = q .valueWrong; held = q .held || b; after = q .after; reply = q .reply }
+
+-- a request on a part, as one on the whole
+abbrev pub onPart : {P Q : Type 0} → (P → Q) → Request P → Request Q
+onPart put q = record { unlisted = q .unlisted; lengthWrong = q .lengthWrong; rangeWrong = q .rangeWrong; notPermitted = q .notPermitted; valueWrong = q .valueWrong; held = q .held; after = put (q .after); reply = q .reply }
+
+-- the answer to a request: the refusal's number or 0, the part after, the reply's data
+pub record Done (P : Type 0) : Type 0 where
+  pub refusal : ℕ
+  pub part : P
+  pub reply : List ℕ
+
+abbrev pub refused : {P : Type 0} → ℕ → P → Done P
+refused n p = record { refusal = n; part = p; reply = [] }
+
+-- 7 to 12 in checking order; "A refusal changes no state" and has no data
+unfoldable pub judged : {P : Type 0} → P → Request P → Done P
+judged before q =
+    cond (q .unlisted) (refused 7 before)
+    (cond (q .lengthWrong) (refused 8 before)
+    (cond (q .rangeWrong) (refused 9 before)
+    (cond (q .notPermitted) (refused 10 before)
+    (cond (q .valueWrong) (refused 11 before)
+    (cond (q .held) (refused 12 before)
+    (record { refusal = 0; part = q .after; reply = q .reply }))))))
+
+-- a refusal's ACK, 00 if accepted
+unfoldable pub ackOf : ℕ → ℕ
+ackOf n = cond (eqb n 0) 0x00 (cond (eqb n 7) 0x02 (cond (eqb n 10) 0x04 0x03))
+
+-- a refusal's exception code
+unfoldable pub exceptionOf : ℕ → ℕ
+exceptionOf n =
+    cond (eqb n 7) 0x01
+    (cond (eqb n 9) 0x02
+    (cond (eqb n 10) 0x04
+    (cond (eqb n 12) 0x04 0x03)))
+
+-- a call's answer: the refusal's number or 0, the state after, the reply's bytes
+pub record Out : Type 0 where
+  pub refusal : ℕ
+  pub after : Module
+  pub reply : List ℕ
+
+-- no reply
+abbrev pub silent : ℕ → Module → Out
+silent n m = record { refusal = n; after = m; reply = [] }
+
+-- "Refusals 1 to 6 .. have length 0" and change nothing; 0 goes on
+abbrev pub ifPasses : ℕ → Module → Out → Out
+ifPasses zero m o = o
+ifPasses (suc n) m o = silent (suc n) m

@@ -1,0 +1,76 @@
+-- 01, Samples and edges.
+use Prim.Native.Nat.{ℕ, _+_, _%_}
+use mathlib.Core.Bool.{Bool, true, false, cond, not, _&&_, Bool·beq}
+use mathlib.Core.List.{List, map}
+use lib.Dec.{eqb, leb}
+use lib.ListN.{getD}
+use Rattle.lists.specs.Mapi.{mapi}
+use Rattle.lists.specs.Numbers.{bitAt, bitsNumber}
+use Rattle.model.specs.declared.Line.{Line}
+use Rattle.model.specs.declared.Inputs.{Inputs}
+use Rattle.model.specs.State.{line, freshLine}
+
+-- the number of inputs, and of outputs
+abbrev pub places : ℕ
+places = 16
+
+-- "a counter is 16 bits": its width in bits and in bytes, the value it goes to 0 at, and the largest it holds
+abbrev pub counterBits : ℕ
+counterBits = 16
+
+abbrev pub counterBytes : ℕ
+counterBytes = 2
+
+abbrev pub counterModulus : ℕ
+counterModulus = 65536
+
+abbrev pub counterLimit : ℕ
+counterLimit = 65535
+
+-- One input's sample, by the sampling number and the sampled bit. "A sample equal to the stable state sets the run to 0. A differing one
+-- adds 1; if the run is then at least the sampling number, the state flips, the run becomes 0."
+unfoldable pub lineSampled : ℕ → Bool → Line → Line
+lineSampled number bit x =
+    cond (Bool·beq bit (x .stable)) (line (x .stable) 0)
+    (cond (leb number (x .run + 1)) (line bit 0) (line (x .stable) (x .run + 1)))
+
+-- the sixteen, the sample's lowest bit for input 1
+unfoldable pub linesSampled : ℕ → ℕ → List Line → List Line
+linesSampled number bits xs = mapi (λ i x. lineSampled number (bitAt bits i) x) xs
+
+-- edge (01): the stable state flipped
+abbrev pub isEdge : Line → Line → Bool
+isEdge was now = not (Bool·beq (was .stable) (now .stable))
+
+-- which inputs have an edge
+unfoldable pub edges : List Line → List Line → List Bool
+edges was now = mapi (λ i x. isEdge x (getD now i freshLine)) was
+
+-- "Modes: 0 none, 1 rising, 2 falling, 3 both"; a mode above 3 would select none
+unfoldable pub selects : ℕ → Bool → Bool
+selects mode rising =
+    cond (eqb mode 1) rising
+    (cond (eqb mode 2) (not rising)
+    (eqb mode 3))
+
+-- selected edge (01): an edge that the mode at that moment selects, "rising if the new state is 1"
+unfoldable pub selectedEdge : ℕ → Line → Line → Bool
+selectedEdge mode was now = isEdge was now && selects mode (now .stable)
+
+-- "A selected edge adds 1 to the counter", which "goes from 65,535 to 0 on purpose"
+unfoldable pub counted : Bool → ℕ → ℕ
+counted selected c = cond selected ((c + 1) % counterModulus) c
+
+unfoldable pub countersSampled : List ℕ → List Line → List Line → List ℕ → List ℕ
+countersSampled modes was now cs =
+    mapi (λ i c. counted (selectedEdge (getD modes i 0) (getD was i freshLine) (getD now i freshLine)) c) cs
+
+-- inputs, then counters
+unfoldable pub inputsSampled : ℕ → Inputs → Inputs
+inputsSampled bits x =
+    let now = linesSampled (x .sampling) bits (x .lines) in
+    record { lines = now; modes = x .modes; counters = countersSampled (x .modes) (x .lines) now (x .counters); sampling = x .sampling }
+
+-- "An input reads everywhere as its stable state"
+abbrev pub inputStates : Inputs → List Bool
+inputStates x = map (λ (y : Line). y .stable) (x .lines)

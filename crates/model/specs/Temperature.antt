@@ -1,0 +1,159 @@
+-- 01, Temperature.
+use Prim.Native.Nat.{ℕ, _-_, _/_, _%_}
+use mathlib.Core.Bool.{Bool, true, false, cond, not, _&&_, _||_}
+use mathlib.Core.List.{List, [], _∷_, _++_, map, foldl, flatMap}
+use lib.ListN.{length, getD, set}
+use lib.Dec.{ltb, leb, eqb}
+use lib.IntN.{ℤ, pos, negsuc}
+use lib.Signed.{ltZ, leZ}
+use lib.Ieee.{Float, binary32, div, ofInt, ofBits, toBits, isNan}
+use Rattle.lists.specs.Tests.{all}
+use Rattle.lists.specs.Mapi.{mapi}
+use Rattle.lists.specs.Numbers.{wordAt, bytes}
+use Rattle.lists.specs.Chunks.{chunks}
+use Rattle.model.specs.declared.Output.{Output}
+use Rattle.model.specs.declared.Thermostat.{Thermostat}
+use Rattle.model.specs.declared.Reading.{Reading}
+use Rattle.model.specs.declared.Reading.the-variants.{Valid, Fault}
+use Rattle.model.specs.declared.Module.{Module}
+use Rattle.model.specs.State.{output, thermostat, freshThermostat, withReading}
+use Rattle.model.specs.Refusals.{Request, accepting, refuse8, refuse11}
+use Rattle.model.specs.Counters.{isNumber, itemsOf, mostItems, everyNumber}
+use Rattle.model.specs.Times.{secondSamples}
+
+-- Signed numbers as two bytes, and the float --------------------------------------------
+
+-- two's complement: from 8000H up, less by 65,536
+unfoldable pub signedOf : ℕ → ℤ
+signedOf n = cond (ltb n 32768) (pos n) (negsuc (65535 - n))
+
+-- negsuc k is -(k + 1)
+unfoldable pub patternOf : ℤ → ℕ
+patternOf (pos n) = n
+patternOf (negsuc k) = 65535 - k
+
+-- "The float is tenths divided by 10 in f32, rounded once"; 41200000H is 10
+unfoldable pub degrees : ℤ → Float
+degrees t = div binary32 (ofInt binary32 t) (ofBits binary32 0x4120_0000)
+
+-- The reading ------------------------------------------------------------------------------
+
+-- "A bad mark, tenths outside -1,000 to 2,000 .. are a fault"; negsuc 999 is -1,000
+unfoldable pub readingOf : Bool → ℤ → Reading
+readingOf good t = cond (good && (leZ (negsuc 999) t && leZ t (pos 2000))) (Valid t (degrees t)) Fault
+
+-- "51H (00 or 01): 01, 80H valid or 00, tenths"
+unfoldable pub readingShown : Reading → List ℕ
+readingShown (Valid t x) = 0x01 ∷ 0x80 ∷ bytes 2 (patternOf t)
+readingShown Fault = 0x01 ∷ 0x00 ∷ 0x00 ∷ 0x00 ∷ []
+
+unfoldable pub readTemperature : {P : Type 0} → List ℕ → Reading → P → Request P
+readTemperature d r p = refuse8 (not (eqb (length d) 1)) (refuse11 (not (leb (getD d 0 0) 0x01)) (accepting p (readingShown r)))
+
+-- the float's bits; no sample gives a NaN, and one in the state would show as 0
+unfoldable pub floatBits : Float → ℕ
+floatBits x = cond (isNan x) 0 (toBits binary32 x)
+
+-- "Input 0 to 3: status (0 valid, 1 fault), tenths, float (high word first)"; a fault: "status 1, rest 0"
+unfoldable pub readingWords : Reading → List ℕ
+readingWords (Valid t x) = 0 ∷ patternOf t ∷ floatBits x / 65536 ∷ floatBits x % 65536 ∷ []
+readingWords Fault = 1 ∷ 0 ∷ 0 ∷ 0 ∷ []
+
+-- Thermostats ------------------------------------------------------------------------------
+
+-- flags FSSKTTTT: F, SS, K and the sensor
+abbrev pub active : Thermostat → Bool
+active h = leb 128 (h .flags)
+
+abbrev pub action : Thermostat → ℕ
+action h = h .flags / 32 % 4
+
+abbrev pub onFall : Thermostat → Bool
+onFall h = eqb (h .flags / 16 % 2) 1
+
+abbrev pub sensor : Thermostat → ℕ
+sensor h = h .flags % 16
+
+-- "ERR 0 to 2"; "With F = 1: sensor 1, TEMPx at least TEMPy, TIME above 0 when SS is 10 or 11"
+unfoldable pub thermostatFits : Thermostat → Bool
+thermostatFits h =
+    leb (h .err) 2
+    && (not (active h)
+    || (eqb (sensor h) 1
+    && (leZ (h .tempy) (h .tempx)
+    && (ltb (action h) 2 || not (eqb (h .time .0) 0)))))
+
+-- a group: output, flags, TEMPx, TEMPy, TIME, ERR
+unfoldable pub groupThermostat : List ℕ → Thermostat
+groupThermostat c = thermostat (getD c 1 0) (signedOf (wordAt c 2)) (signedOf (wordAt c 4)) (getD c 6 0) (getD c 7 0)
+
+unfoldable pub groupFits : List ℕ → Bool
+groupFits c = isNumber (getD c 0 0) && thermostatFits (groupThermostat c)
+
+unfoldable pub setGroup : List Thermostat → List ℕ → List Thermostat
+setGroup hs c = set hs (getD c 0 0 - 1) (groupThermostat c)
+
+-- "1AH: 1 to 12 groups"
+unfoldable pub setThermostats : List ℕ → List Thermostat → Request (List Thermostat)
+setThermostats d hs = refuse8 (not (itemsOf 8 d)) (refuse11 (not (all groupFits (chunks 8 d))) (accepting (foldl setGroup hs (chunks 8 d)) []))
+
+unfoldable pub groupShown : List Thermostat → ℕ → List ℕ
+groupShown hs n =
+    let h = getD hs (n - 1) freshThermostat in
+    n ∷ h .flags ∷ bytes 2 (patternOf (h .tempx)) ++ bytes 2 (patternOf (h .tempy)) ++ h .time .0 ∷ h .err ∷ []
+
+-- "1BH: no data or 1 to 12 outputs, same groups"
+unfoldable pub readThermostats : {P : Type 0} → List ℕ → List Thermostat → P → Request P
+readThermostats d hs p =
+    let ns = cond (eqb (length d) 0) everyNumber d in
+    refuse8 (not (leb (length d) mostItems)) (refuse11 (not (all isNumber ns)) (accepting p (flatMap (groupShown hs) ns)))
+
+-- 12: "With F = 1, 20H, 23H, 25H and writes of coils and registers 500 to 515 need, for that output, a valid reading now, from TEMPy
+-- to TEMPx, ends included; else 12"
+unfoldable pub free : Reading → Thermostat → Bool
+free (Valid t x) h = not (active h) || (leZ (h .tempy) t && leZ t (h .tempx))
+free Fault h = not (active h)
+
+-- of output n
+unfoldable pub freeAt : Reading → List Thermostat → ℕ → Bool
+freeAt r hs n = free r (getD hs (n - 1) freshThermostat)
+
+-- A temperature sample ----------------------------------------------------------------------
+
+-- SS 00: "turns on above TEMPx, off below TEMPy; 01 the reverse"; each a set, which ends a pulse
+unfoldable pub levelled : Bool → Thermostat → ℤ → Output → Output
+levelled above h now o = cond (ltZ (h .tempx) now) (output above 0) (cond (ltZ now (h .tempy)) (output (not above) 0) o)
+
+-- "when the last valid reading was at most TEMPx and this is above (K 0), or at least TEMPy and now below (K 1); the first valid reading of all starts none"
+unfoldable pub crossed : Thermostat → Reading → ℤ → Bool
+crossed h (Valid last x) now =
+    cond (onFall h) (leZ (h .tempy) last && ltZ now (h .tempy)) (leZ last (h .tempx) && ltZ (h .tempx) now)
+crossed h Fault now = false
+
+-- "10 starts an on pulse of TIME seconds, 11 an off pulse"; a TIME of 0, which no setting gives, would be a plain set
+unfoldable pub crossing : Bool → Thermostat → Reading → ℤ → Output → Output
+crossing on h last now o = cond (crossed h last now) (output on (secondSamples (h .time))) o
+
+-- "At a valid sample, where F is 1": SS 00, 01, 10, 11
+unfoldable pub heated : Reading → ℤ → Thermostat → Output → Output
+heated last now h o =
+    cond (not (active h)) o
+    (cond (eqb (action h) 0) (levelled true h now o)
+    (cond (eqb (action h) 1) (levelled false h now o)
+    (crossing (eqb (action h) 2) h last now o)))
+
+-- "A fault sample, where F is 1, applies ERR: 0 nothing, 1 off, 2 on"
+unfoldable pub failed : Thermostat → Output → Output
+failed h o =
+    cond (not (active h)) o
+    (cond (eqb (h .err) 1) (output false 0)
+    (cond (eqb (h .err) 2) (output true 0) o))
+
+-- each output by its own thermostat
+abbrev pub byThermostat : (Thermostat → Output → Output) → List Thermostat → List Output → List Output
+byThermostat f hs os = mapi (λ i o. f (getD hs i freshThermostat) o) os
+
+-- a new reading; a valid one is the last valid from now on
+unfoldable pub taken : Reading → Module → Module
+taken (Valid t x) m = withReading m (byThermostat (heated (m .last) t) (m .thermostats) (m .outputs)) (Valid t x) (Valid t x)
+taken Fault m = withReading m (byThermostat failed (m .thermostats) (m .outputs)) Fault (m .last)

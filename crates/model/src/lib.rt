@@ -1,0 +1,130 @@
+// The module's state, and the fresh one.
+ghost use mathlib.Core.Path.{_≡_};
+ghost use Rattle.model.specs.State.{freshModule};
+
+// One input: its stable state, and the run of samples that differ from it.
+pub struct Line {
+    pub stable: bool,
+    pub run: u8,
+}
+
+// All that counting needs.
+pub struct Inputs {
+    pub lines: [Line; 16],
+    pub modes: [u8; 16],
+    pub counters: [u16; 16],
+    pub sampling: u8,
+}
+
+// One output: its state, and the samples left of its pulse (0: no pulse).
+pub struct Output {
+    pub on: bool,
+    pub left: u32,
+}
+
+// A time in half seconds: of a pulse, of a preset.
+pub struct HalfSeconds(pub u8);
+
+// A time in seconds: a thermostat's TIME.
+pub struct Seconds(pub u8);
+
+// A preset pulse of an output: type 0 none, 2 on first, 3 off first.
+pub struct Preset {
+    pub kind: u8,
+    pub time: HalfSeconds,
+}
+
+// A thermostat's settings. The flags are FSSKTTTT.
+pub struct Thermostat {
+    pub flags: u8,
+    pub tempx: i16,
+    pub tempy: i16,
+    pub time: Seconds,
+    pub err: u8,
+}
+
+// A reading of the thermometer: its tenths and its float, or a fault.
+pub enum Reading {
+    Valid(i16, f32),
+    Fault,
+}
+
+// The notice of inputs: format 61H on, 0 off; the mask; the signature of the enabling request.
+pub struct Notice {
+    pub format: u8,
+    pub mask: u16,
+    pub signature: u8,
+}
+
+// A port's address and speed code, and its configuration permission.
+pub struct Port {
+    pub address: u8,
+    pub speed: u8,
+    pub permitted: bool,
+}
+
+// The whole state. `last` is the last valid reading, a fault where there was none.
+pub struct Module {
+    pub inputs: Inputs,
+    pub outputs: [Output; 16],
+    pub presets: [Preset; 16],
+    pub thermostats: [Thermostat; 16],
+    pub reading: Reading,
+    pub last: Reading,
+    pub notice: Notice,
+    pub spinel: Port,
+    pub modbus: Port,
+}
+
+// What a call answers: the refusal's number (0: accepted), the reply's length, the state after.
+pub struct Answer {
+    pub refusal: u8,
+    pub len: usize,
+    pub after: Module,
+}
+
+// The fifth call: the fresh state.
+pub fn fresh() -> Module
+    ensures { λ r. ⌜ r ≡ freshModule ⌝ }
+{
+    Module {
+        inputs: Inputs {
+            lines: [Line {
+                stable: false,
+                run: 0,
+            }; 16],
+            modes: [0; 16],
+            counters: [0; 16],
+            sampling: 20,
+        },
+        outputs: [Output { on: false, left: 0 }; 16],
+        presets: [Preset {
+            kind: 0,
+            time: HalfSeconds(0),
+        }; 16],
+        thermostats: [Thermostat {
+            flags: 0,
+            tempx: 0,
+            tempy: 0,
+            time: Seconds(0),
+            err: 0,
+        }; 16],
+        reading: Reading::Fault,
+        last: Reading::Fault,
+        notice: Notice {
+            format: 0,
+            mask: 0,
+            signature: 0,
+        },
+        spinel: Port {
+            address: 0x31,
+            speed: 6,
+            permitted: false,
+        },
+        modbus: Port {
+            address: 0x31,
+            speed: 6,
+            permitted: false,
+        },
+    }
+}
