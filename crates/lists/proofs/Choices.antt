@@ -6,7 +6,7 @@ use lib.ListN.{length, drop, getD, drop-of-length-le}
 use lib.Seq.{drop-cons}
 use borrow.Author.Tests.{eqb-true, leb-true, le-leb, lt-leb}
 use mathlib.Core.Path.{_≡_, refl, sym}
-use mathlib.Core.Bool.{Bool, true, false, cond, not, _&&_}
+use mathlib.Core.Bool.{Bool, true, false, cond, _&&_, _||_}
 use mathlib.Core.List.{List, [], _∷_}
 use Rattle.lists.specs.Tests.{within, all}
 
@@ -26,6 +26,14 @@ and-left false b h = h
 pub and-right : (a b : Bool) → (a && b) ≡ true → b ≡ true
 and-right true b h = h
 and-right false b h = cc
+
+pub or-left : (a b : Bool) → (a || b) ≡ false → a ≡ false
+or-left true b h = h
+or-left false b h = refl
+
+pub or-right : (a b : Bool) → (a || b) ≡ false → b ≡ false
+or-right true b h = cc
+or-right false b h = h
 
 module _ (low high x : ℕ) where
   pub within-low : within low high x ≡ true → low ≤ x

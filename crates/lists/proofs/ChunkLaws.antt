@@ -31,6 +31,11 @@ module _ {A : Type 0} (w i : ℕ) (l : List A) where
   pub chunks-none : length l < i + w → 0 < w → chunks w (drop i l) ≡ []
   chunks-none h p = chunks-short w (drop i l) (simp length-drop (omega arith))
 
+pub length-chunksOf : {A : Type 0} (w n : ℕ) (l : List A) → length (chunksOf w n l) ≡ n
+unfolding chunksOf
+length-chunksOf w zero l = refl
+length-chunksOf w (suc n) l = ap suc (length-chunksOf w n (drop w l))
+
 -- a chunk, byte by byte
 pub piece : {A : Type 0} (k i : ℕ) (l : List A) (d : A) → i < length l → take (suc k) (drop i l) ≡ getD l i d ∷ take k (drop (i + 1) l)
 piece k i l d h = rw (drop-cons l i d h, add-one)

@@ -1,2 +1,12 @@
 pub mod Computing
 pub mod RackTable
+pub mod Short
+pub mod Refused
+pub mod OneInput
+pub mod Bridge
+pub mod Invariant
+pub mod Effects
+pub mod Accepted
+pub mod SpinelKeeps
+pub mod ModbusKeeps
+pub mod Conservation

@@ -1,6 +1,6 @@
 -- Demand 1: the conditions of every call in checking order, and what is claimed of every state and call.
 use Prim.Native.Nat.{ℕ, _+_, _≤_}
-use mathlib.Core.Bool.{Bool, true, false}
+use mathlib.Core.Bool.{Bool, true, false, cond}
 use mathlib.Core.List.{List, [], _∷_, _++_}
 use mathlib.Core.Path.{_≡_}
 use mathlib.Core.Logic.{_↔_}
@@ -8,8 +8,8 @@ use lib.Dec.{eqb}
 use lib.ListN.{length, getD}
 use Rattle.lists.specs.Data.{over}
 use Rattle.model.specs.declared.Module.{Module}
-use Rattle.model.specs.Frames.{spinelTo, instructionOf, spinelBroadcast, modbusTo, functionOf, modbusBody, modbusBroadcast}
-use Rattle.model.specs.Refusals.{bufferShort, frameLengthWrong, shapeWrong, sumWrong, crcWrong, spinelAddressWrong, modbusAddressWrong, spinelBroadcastWrong, modbusBroadcastWrong, Request}
+use Rattle.model.specs.Frames.{spinelTo, signatureOf, instructionOf, spinelBroadcast, spinelReply, modbusTo, functionOf, modbusBody, modbusBroadcast, exceptionReply}
+use Rattle.model.specs.Refusals.{bufferShort, frameLengthWrong, shapeWrong, sumWrong, crcWrong, spinelAddressWrong, modbusAddressWrong, spinelBroadcastWrong, modbusBroadcastWrong, Request, ackOf, exceptionOf}
 use Rattle.model.specs.Spinel.{spinelAsked, spinelRequest, spinelUsed}
 use Rattle.model.specs.Modbus.{modbusAsked, modbusUsed}
 use Rattle.model.specs.Call.{Act, Call, sample, temperature, spinel, modbus}
@@ -82,6 +82,13 @@ isBroadcast (temperature good tenths) = false
 isBroadcast (spinel f) = eqb (spinelTo f) spinelBroadcast
 isBroadcast (modbus f) = eqb (modbusTo f) modbusBroadcast
 
+-- what a call refused by n, 7 to 12, is answered
+unfoldable pub refusalReply : ℕ → Act → Module → List ℕ
+refusalReply n (sample bits) m = []
+refusalReply n (temperature good tenths) m = []
+refusalReply n (spinel f) m = cond (eqb (spinelTo f) spinelBroadcast) [] (spinelReply (m .spinel .address) (signatureOf f) (ackOf n) [])
+refusalReply n (modbus f) m = cond (eqb (modbusTo f) modbusBroadcast) [] (exceptionReply (m .modbus .address) (functionOf f) (exceptionOf n))
+
 -- what holds of a call c in a state m, whatever the state, the frame, the sample and the buffer
 pub record Refusals (m : Module) (c : Call) : Type 0 where
   -- refused by n exactly when condition n holds and no earlier one; accepted exactly when none holds
@@ -92,14 +99,17 @@ pub record Refusals (m : Module) (c : Call) : Type 0 where
   pub early : 1 ≤ step m c .refusal → step m c .refusal ≤ 6 → (step m c .after ≡ m) × (step m c .reply ≡ [])
   -- 7 to 12: it differs at most in that port's permission, which has ended
   pub late : 7 ≤ step m c .refusal → step m c .after ≡ permissionEnded (c .act) m
-  -- "all refused broadcasts, have length 0"
-  pub broadcast : 1 ≤ step m c .refusal → isBroadcast (c .act) ≡ true → step m c .reply ≡ []
+  -- and the reply is that number's ACK or exception, without data
+  pub told : 7 ≤ step m c .refusal → step m c .reply ≡ refusalReply (step m c .refusal) (c .act) m
+  -- "Broadcasts draw no reply", refused or accepted
+  pub broadcast : isBroadcast (c .act) ≡ true → step m c .reply ≡ []
   -- a reply of length 0 leaves a lent buffer as it was
   pub untouched : (old : List ℕ) → step m c .reply ≡ [] → over (step m c .reply) old ≡ old
   -- "Bytes beyond the reply length are never touched"
   pub beyond : (old : List ℕ) (i : ℕ) → getD (over (step m c .reply) old) (length (step m c .reply) + i) 0 ≡ getD old (length (step m c .reply) + i) 0
-  -- a reply fits the least buffer that is not refused
+  -- a reply fits the least buffer that is not refused, which keeps its length
   pub fits : length (step m c .reply) ≤ 256
+  pub size : (old : List ℕ) → 256 ≤ length old → length (over (step m c .reply) old) ≡ length old
 
 abbrev pub RefusalsHold : Type 0
 RefusalsHold = (m : Module) (c : Call) → Refusals m c

@@ -13,3 +13,5 @@ pub mod Modbus
 pub mod Call
 pub mod Calls
 pub mod Demand1
+pub mod Tally
+pub mod Cycles

@@ -1,0 +1,88 @@
+-- What the module's inputs and the tally agree in, for one input; fresh, and after a sample. Assumes nothing.
+use Prim.Native.Nat.{ℕ, zero, suc, _+_, _-_, _*_, _/_, _%_, _^_, _≤_, _<_}
+use native.Mathlib.Omega.{arith}
+use mathlib.Core.Path.{_≡_, refl, sym, ap, _∙_}
+use mathlib.Core.List.{List, [], _∷_}
+use mathlib.Core.Bool.{Bool, true, false, cond}
+use lib.ListN.{length, getD, replicate, getD-replicate}
+use Rattle.lists.specs.Mapi.{mapi}
+use Rattle.lists.specs.Numbers.{bitAt}
+use Rattle.lists.proofs.Done.{getD-mapi, length-mapi}
+use Rattle.model.specs.declared.Inputs.{Inputs}
+use Rattle.model.specs.declared.Line.{Line}
+use Rattle.model.specs.State.{line, freshLine, freshModule}
+use Rattle.model.specs.Samples.{lineSampled, linesSampled, selectedEdge, counted, countersSampled, inputsSampled}
+use Rattle.model.specs.Tally.{Tally, Account, sampledAccount, sampledBit, freshTally}
+use Rattle.model.proofs.Bridge.{account, sampled-agrees}
+
+-- n and u are the tally's sampling number and its account of the input in place i, whose number is i + 1
+pub record At (i : ℕ) (x : Inputs) (n : ℕ) (u : Account) : Type 0 where
+  pub sampling : x .sampling ≡ n
+  pub stable : cond (getD (x .lines) i freshLine .stable) 1 0 ≡ u .stable
+  pub run : getD (x .lines) i freshLine .run ≡ u .run
+  pub mode : getD (x .modes) i 0 ≡ u .mode
+  pub lines : length (x .lines) ≡ 16
+  pub modes : length (x .modes) ≡ 16
+  pub counters : length (x .counters) ≡ 16
+  pub times : ℕ
+  pub sum : u .edges ≡ u .collected + getD (x .counters) i 0 + 65536 * times
+
+abbrev pub Inv : ℕ → Inputs → Tally → Type 0
+Inv i x t = At i x (t .sampling) (t .input (suc i))
+
+pub fresh : (i : ℕ) → i < 16 → Inv i (freshModule .inputs) freshTally
+unfolding freshModule
+fresh i h =
+    let zeros : _≡_ {A = ℕ} (getD (replicate 16 0) i 0) 0 = getD-replicate {A = ℕ} 16 i 0 0 h in
+    let idle : getD (replicate 16 freshLine) i freshLine ≡ freshLine = getD-replicate {A = Line} 16 i freshLine freshLine h in
+    record { sampling = refl; stable = rw idle; run = rw idle; mode = zeros; lines = refl; modes = refl; counters = refl; times = 0; sum = omega arith }
+
+-- a counter that counts, with the wraps it has made
+wraps : (b : Bool) (c : ℕ) → c + cond b 1 0 ≡ counted b c + 65536 * cond b ((c + 1) / 65536) 0
+unfolding counted
+wraps true c = omega arith
+wraps false c = omega arith
+
+-- the same account, the state and run those of the line
+as-line : (u : Account) (s : Bool) (r : ℕ) → cond s 1 0 ≡ u .stable → r ≡ u .run → u ≡ account s r (u .mode) (u .edges) (u .collected)
+as-line u s r e q = rw (e, q)
+
+module _ (i : ℕ) (small : i < 16) (x : Inputs) (n : ℕ) (u : Account) (bits : ℕ) (v : At i x n u) where
+  abbrev was : Line
+  was = getD (x .lines) i freshLine
+
+  abbrev now : Line
+  now = lineSampled n (bitAt bits i) was
+
+  line-at : getD (linesSampled (x .sampling) bits (x .lines)) i freshLine ≡ now
+  unfolding linesSampled
+  line-at = getD-mapi (λ k y. lineSampled (x .sampling) (bitAt bits k) y) (x .lines) i freshLine freshLine (omega (arith, v .lines)) ∙ rw (v .sampling)
+
+  counter-at : getD (countersSampled (x .modes) (x .lines) (linesSampled (x .sampling) bits (x .lines)) (x .counters)) i 0 ≡ counted (selectedEdge (u .mode) was now) (getD (x .counters) i 0)
+  unfolding countersSampled
+  counter-at =
+      getD-mapi (λ k c. counted (selectedEdge (getD (x .modes) k 0) (getD (x .lines) k freshLine) (getD (linesSampled (x .sampling) bits (x .lines)) k freshLine)) c) (x .counters) i 0 0 (omega (arith, v .counters))
+      ∙ rw (line-at, v .mode)
+
+  account-after : sampledAccount n (sampledBit bits (suc i)) u ≡ account (now .stable) (now .run) (u .mode) (u .edges + cond (selectedEdge (u .mode) was now) 1 0) (u .collected)
+  account-after =
+      let place : suc i - 1 ≡ i = omega arith in
+      rw place
+      (ap (sampledAccount n (bits / 2 ^ i % 2)) (as-line u (was .stable) (was .run) (v .stable) (v .run))
+      ∙ sampled-agrees n (was .run) (u .mode) (u .edges) (u .collected) (bits / 2 ^ i % 2) (was .stable) (omega arith))
+
+  pub sample-keeps : At i (inputsSampled bits x) n (sampledAccount n (sampledBit bits (suc i)) u)
+  unfolding inputsSampled linesSampled countersSampled
+  sample-keeps =
+      rw account-after
+      (record {
+        sampling = v .sampling;
+        stable = rw line-at;
+        run = rw line-at;
+        mode = v .mode;
+        lines = length-mapi _ (x .lines) ∙ v .lines;
+        modes = v .modes;
+        counters = length-mapi _ (x .counters) ∙ v .counters;
+        times = v .times + cond (selectedEdge (u .mode) was now) ((getD (x .counters) i 0 + 1) / 65536) 0;
+        sum = rw counter-at (omega (arith, v .sum, wraps (selectedEdge (u .mode) was now) (getD (x .counters) i 0)));
+      })

@@ -1,0 +1,158 @@
+-- Each function and register group of the Modbus port keeps the invariant: its conditions, then the change of `Effects`, then the
+-- tally's reading by `Bridge`. Assumes nothing.
+use Prim.Native.Nat.{ℕ, suc, _+_, _-_, _*_, _≤_, _<_}
+use native.Mathlib.Omega.{arith}
+use mathlib.Core.Path.{_≡_, refl, sym}
+use mathlib.Core.List.{List, [], _∷_}
+use mathlib.Core.Bool.{Bool, true, false, not, true≢false}
+use lib.ListN.{length, take, drop}
+use lib.Dec.{leb, eqb}
+use borrow.Author.Tests.{eqb-true, ltb-false, not-false, le-leb}
+use Rattle.lists.specs.Tests.{within, all}
+use Rattle.lists.specs.Entries.{Entry, numbered}
+use Rattle.lists.proofs.Choices.{cond-case, cond-eq, or-left, or-right, within-low, within-high}
+use Rattle.model.specs.declared.Module.{Module}
+use Rattle.model.specs.declared.Inputs.{Inputs}
+use Rattle.model.specs.State.{withInputs, withModbus, withCounters, withModes}
+use Rattle.model.specs.Frames.{functionOf, modbusBody}
+use Rattle.model.specs.Refusals.{Request, refuse8, onPart}
+use Rattle.model.specs.Counters.{deduct, setModes, reset}
+use Rattle.model.specs.Registers.{reachesPast, readWords, readBits, readThermostat, writePermission, writePort, writeCounters, writeDeductions, writeModes}
+use Rattle.model.specs.Modbus.{startOf, secondOf, countWrong, words, registersRead, registersWritten, answering, coilWritten, registerWritten, coilsWritten, severalWritten, modbusAsked}
+use Rattle.model.specs.Tally.{Tally, Account, twoAt, quantity, writes, modbusTallied}
+use Rattle.model.proofs.Bridge.{Values, single, several, isWrite, writes-below, writes-above, writes-not, lookup, lookup-collect, lookup-mode, lookup-clear, quiet, at-counter, at-deduction, at-mode, at-settings}
+use Rattle.model.proofs.Invariant.{Inv}
+use Rattle.model.proofs.Accepted.{Good}
+use Rattle.model.proofs.Effects as effects
+
+-- the numbers from s on, s at least 1, are at least 1
+numbers-from : (s : ℕ) (vs : List ℕ) → 1 ≤ s → all (λ (e : Entry). leb 1 (e .number)) (numbered s vs) ≡ true
+unfolding numbered all
+numbers-from s [] h = refl
+numbers-from s (a ∷ vs) h = rw (le-leb 1 s h) (numbers-from (suc s) vs (omega arith))
+
+-- a write that does not reach past its group's end
+ends : (end : ℕ) (f vs : List ℕ) → Values f vs → reachesPast end (twoAt f 2) (length vs) ≡ false → twoAt f 2 + quantity f ≤ end
+ends end f vs o h = omega (arith, o .size, ltb-false end (twoAt f 2 + length vs) h)
+
+module _ (i : ℕ) (small : i < 16) (m : Module) (t : Tally) (v : Inv i (m .inputs) t) (f : List ℕ) where
+  abbrev x : Inputs
+  x = m .inputs
+
+  abbrev u : Account
+  u = t .input (suc i)
+
+  -- an accepted frame, whatever its reply
+  abbrev pub on : List ℕ → Tally
+  on b = modbusTallied f t
+
+  -- a request that leaves the inputs as they are, and writes no register from 1 to 315
+  silent : (q : Request Module) → q .after .inputs ≡ x → ((k : ℕ) → 1 ≤ k → k ≤ 315 → writes f k ≡ false) → Good i on q
+  silent q e h = record { keeps = λ p. rw (e, quiet i f u small h) v }
+
+  -- another function than 06 and 10H
+  reads : (q : Request Module) → q .after .inputs ≡ x → isWrite f ≡ false → Good i on q
+  reads q e h = silent q e (λ k l r. writes-not f k h)
+
+  -- a read of registers changes nothing
+  read-keeps : (r n : ℕ) → registersRead r n m .after .inputs ≡ x
+  unfolding registersRead readWords readThermostat
+  read-keeps r n =
+      cond-case P (within 1 2 r) _ _ (λ _. refl) λ _.
+      cond-case P (within 100 115 r) _ _ (λ _. refl) λ _.
+      cond-case P (within 300 315 r) _ _ (λ _. refl) λ _.
+      cond-case P (within 500 515 r) _ _ (λ _. refl) λ _.
+      cond-case P (within 600 663 r) _ _ (λ _. refl) λ _.
+      refl
+    where
+      P : Request Module → Type 0
+      P q = q .after .inputs ≡ x
+
+  -- the values vs for the registers from the frame's first on
+  module _ (vs : List ℕ) (w : isWrite f ≡ true) (o : Values f vs) where
+    counters-good : 100 ≤ twoAt f 2 → Good i on (onPart (λ cs. withInputs m (withCounters x cs)) (writeCounters (twoAt f 2) vs (x .counters)))
+    unfolding writeCounters
+    counters-good l = record {
+      keeps = λ p. rw (at-counter i f u small l (ends 116 f vs o (p .range)), ← lookup-clear u (lookup i 99 f vs w o l))
+          (effects.zeroes-some i small x (t .sampling) u v _ (numbers-from (twoAt f 2 - 99) vs (omega arith)));
+    }
+
+    deductions-good : 200 ≤ twoAt f 2 → Good i on (onPart (λ cs. withInputs m (withCounters x cs)) (writeDeductions (twoAt f 2) vs (x .counters)))
+    unfolding writeDeductions deduct
+    deductions-good l = record {
+      keeps = λ p. rw (at-deduction i f u small l (ends 216 f vs o (or-left _ _ (p .range))), ← lookup-collect u (lookup i 199 f vs w o l))
+          (effects.deducts i small x (t .sampling) u v _ (not-false _ (p .value)));
+    }
+
+    modes-good : 300 ≤ twoAt f 2 → Good i on (onPart (λ ms. withInputs m (withModes x ms)) (writeModes (twoAt f 2) vs (x .modes)))
+    unfolding writeModes setModes
+    modes-good l = record {
+      keeps = λ p. rw (at-mode i f u small l, ← lookup-mode u (lookup i 299 f vs w o l))
+          (effects.modes i small x (t .sampling) u v _ (not-false _ (p .value)));
+    }
+
+    port-good : (a : Bool) → 1 ≤ twoAt f 2 → twoAt f 2 ≤ 2 → Good i on (writePort a (twoAt f 2) vs m)
+    unfolding writePort reset
+    port-good a l h = record { keeps = λ p. rw (at-settings i f u small w (o .some) l h) (effects.resets i small x (t .sampling) u v) }
+
+    permission-good : (b : Bool) → (b ≡ true → quantity f ≡ 1) → twoAt f 2 ≡ 0 → Good i on (onPart (withModbus m) (writePermission b vs (m .modbus)))
+    unfolding writePermission
+    permission-good b one e = record {
+      keeps = λ p. rw (quiet i f u small (λ k l h. writes-above f k (omega (arith, one (not-false b (p .range)))))) v;
+    }
+
+    -- every group
+    pub registers-good : (a b : Bool) → (b ≡ true → quantity f ≡ 1) → Good i on (registersWritten a b (twoAt f 2) vs m)
+    unfolding registersWritten
+    registers-good a b one =
+        cond-eq P (twoAt f 2) 0 _ _ (permission-good b one)
+        (cond-case P (within 1 2 (twoAt f 2)) _ _ (λ e. port-good a (within-low 1 2 _ e) (within-high 1 2 _ e)) λ _.
+        cond-case P (within 100 115 (twoAt f 2)) _ _ (λ e. counters-good (within-low 100 115 _ e)) λ _.
+        cond-case P (within 200 215 (twoAt f 2)) _ _ (λ e. deductions-good (within-low 200 215 _ e)) λ _.
+        cond-case P (within 300 315 (twoAt f 2)) _ _ (λ e. modes-good (within-low 300 315 _ e)) λ _.
+        cond-case P (within 500 515 (twoAt f 2)) _ _ (λ e. silent _ refl (λ k l h. writes-below f k (omega (arith, within-low 500 515 _ e)))) λ _.
+        cond-case P (within 600 663 (twoAt f 2)) _ _ (λ e. silent _ refl (λ k l h. writes-below f k (omega (arith, within-low 600 663 _ e)))) λ _.
+        record { keeps = λ p. absurd (true≢false (p .range)) })
+      where
+        P : Request Module → Type 0
+        P q = Good i on q
+
+  -- a write's request behind its length and its echo
+  framed : (b : Bool) (echo : List ℕ) (q : Request Module) → (b ≡ false → Good i on q) → Good i on (refuse8 b (answering echo q))
+  framed b echo q g = record {
+    keeps = λ p. g (or-right (q .lengthWrong) b (p .length)) .keeps (record { listed = p .listed; length = or-left (q .lengthWrong) b (p .length); range = p .range; permission = p .permission; value = p .value; free = p .free });
+  }
+
+  abbrev body : List ℕ
+  body = modbusBody f
+
+  single-good : (a : Bool) → functionOf f ≡ 0x06 → Good i on (registerWritten a body m)
+  unfolding registerWritten
+  single-good a e =
+      framed (not (eqb (length body) 4)) body (registersWritten a true (startOf body) (secondOf body ∷ []) m) λ h.
+      let o : Values f (secondOf body ∷ []) = single f e (eqb-true (length body) 4 (not-false _ h)) in
+      rw (o .start) (registers-good (secondOf body ∷ []) (rw e) o a true (λ _. rw e))
+
+  several-good : (a : Bool) → functionOf f ≡ 0x10 → Good i on (severalWritten a body m)
+  unfolding severalWritten
+  several-good a e =
+      framed (countWrong 123 (2 * secondOf body) body) (take 4 body) (registersWritten a false (startOf body) (words (drop 5 body)) m) λ h.
+      let o : Values f (words (drop 5 body)) = several f e h in
+      rw (o .start) (registers-good (words (drop 5 body)) (rw e) o a false (λ q. absurd (true≢false (sym q))))
+
+  -- every function
+  pub modbus-good : (a : Bool) → Good i on (modbusAsked a (functionOf f) body m)
+  unfolding modbusAsked readBits readWords readThermostat registersRead coilWritten coilsWritten
+  modbus-good a =
+      cond-eq P (functionOf f) 0x01 _ _ (λ e. reads _ refl (rw e))
+      (cond-eq P (functionOf f) 0x02 _ _ (λ e. reads _ refl (rw e))
+      (cond-eq P (functionOf f) 0x03 _ _ (λ e. reads _ (read-keeps (startOf body) (secondOf body)) (rw e))
+      (cond-eq P (functionOf f) 0x04 _ _ (λ e. reads _ refl (rw e))
+      (cond-eq P (functionOf f) 0x05 _ _ (λ e. reads _ refl (rw e))
+      (cond-eq P (functionOf f) 0x06 _ _ (single-good a)
+      (cond-eq P (functionOf f) 0x0F _ _ (λ e. reads _ refl (rw e))
+      (cond-eq P (functionOf f) 0x10 _ _ (several-good a)
+      (record { keeps = λ p. absurd (true≢false (p .listed)) }))))))))
+    where
+      P : Request Module → Type 0
+      P q = Good i on q
