@@ -1,7 +1,7 @@
 -- The definitions opened for computing on closed calls, and short names for the calls. Assumes nothing.
 use Prim.Native.Nat.{ℕ}
 use mathlib.Core.Bool.{Bool}
-use mathlib.Core.List.{List, [], map, flatMap}
+use mathlib.Core.List.{List, [], _∷_, map, flatMap}
 use mathlib.Core.Path.{_≡_}
 use lib.IntN.{ℤ}
 use lib.Ieee.{div, ofInt, ofBits, toBits, isNan}
@@ -23,12 +23,14 @@ use Rattle.model.specs.Registers.{readWords, packed, readBits, outputWor
 use Rattle.model.specs.Spinel.{spinelAsked, spinelRequest, spinelAnswered, spinelActed, spinelHandled}
 use Rattle.model.specs.Modbus.{quantityWrong, countWrong, words, bitsFrom, registersRead, registersWritten, coilWritten, registerWritten, coilsWritten, severalWritten, modbusAsked, modbusAnswered, modbusActed, modbusHandled}
 use Rattle.model.specs.Calls.{Reply, sampled, sampleCall, temperatureCall, spinelCall, modbusCall, step, run, replies}
+use Rattle.model.specs.Tally.{selectedBy, sampledAccount, amounts, modeGiven, takenBy, takenFrom, spinelCollects, spinelClears, spinelResets, spinelMode, spinelSampling, writes, written, modbusCollects, modbusClears, modbusResets, modbusMode, changed, tallied, feed, tally}
+use Rattle.model.specs.Cycles.{events}
 use Rattle.model.specs.declared.Module.{Module}
 use Rattle.model.specs.Call.{Call, call, sample, temperature, spinel, modbus}
 
 -- naming this on an `unfolding` line opens all that its own line names
 unfoldable pub computing : Unit {0}
-unfolding freshModule lineSampled linesSampled edges selects selectedEdge counted countersSampled inputsSampled total spinelReply crcBit crcBits crcByte crcOf withCrc shapeWrong sumWrong crcWrong spinelAddressWrong modbusAddressWrong spinelBroadcastWrong modbusBroadcastWrong spinelFrameRefusal modbusFrameRefusal judged ackOf exceptionOf itemsOf listed listRead parameters readOne valuesRead readCounters deductible deductOne deduct clearAll deductCounters modeSettable setMode setModes setModesList modeShown setSampling readSampling resetInputs reset givePermission setPort readPort resetModule signedOf patternOf degrees readingOf readingShown readTemperature floatBits readingWords thermostatFits groupThermostat groupFits setGroup setThermostats groupShown readThermostats free freeAt levelled crossed crossing heated failed taken pulsed remaining setByte setOutput startPulse actOn setOutputs pulseOutputs setPulses presetSettable setPreset setPresets startPreset presetReady startPresets pulseShown presetShown modeByte readStates setNotice readNotice noticed noticeFrame noticeWritten readWords packed readBits outputWord thermostatWords readThermostat writePermission portSettable setPortField writePort isZero clearOne writeCounters writeDeductions writeModes writePulse wordsThermostat writeThermostat writeCoils spinelAsked spinelRequest spinelAnswered spinelActed spinelHandled quantityWrong countWrong words bitsFrom registersRead registersWritten coilWritten registerWritten coilsWritten severalWritten modbusAsked modbusAnswered modbusActed modbusHandled sampled sampleCall temperatureCall spinelCall modbusCall step run replies within all any mapi allPass bytes bitsNumber chunksOf chunks entryOf entries numbered flatMap div ofInt ofBits toBits isNan
+unfolding freshModule lineSampled linesSampled edges selects selectedEdge counted countersSampled inputsSampled total spinelReply crcBit crcBits crcByte crcOf withCrc shapeWrong sumWrong crcWrong spinelAddressWrong modbusAddressWrong spinelBroadcastWrong modbusBroadcastWrong spinelFrameRefusal modbusFrameRefusal judged ackOf exceptionOf itemsOf listed listRead parameters readOne valuesRead readCounters deductible deductOne deduct clearAll deductCounters modeSettable setMode setModes setModesList modeShown setSampling readSampling resetInputs reset givePermission setPort readPort resetModule signedOf patternOf degrees readingOf readingShown readTemperature floatBits readingWords thermostatFits groupThermostat groupFits setGroup setThermostats groupShown readThermostats free freeAt levelled crossed crossing heated failed taken pulsed remaining setByte setOutput startPulse actOn setOutputs pulseOutputs setPulses presetSettable setPreset setPresets startPreset presetReady startPresets pulseShown presetShown modeByte readStates setNotice readNotice noticed noticeFrame noticeWritten readWords packed readBits outputWord thermostatWords readThermostat writePermission portSettable setPortField writePort isZero clearOne writeCounters writeDeductions writeModes writePulse wordsThermostat writeThermostat writeCoils spinelAsked spinelRequest spinelAnswered spinelActed spinelHandled quantityWrong countWrong words bitsFrom registersRead registersWritten coilWritten registerWritten coilsWritten severalWritten modbusAsked modbusAnswered modbusActed modbusHandled sampled sampleCall temperatureCall spinelCall modbusCall step run replies selectedBy sampledAccount amounts modeGiven takenBy takenFrom spinelCollects spinelClears spinelResets spinelMode spinelSampling writes written modbusCollects modbusClears modbusResets modbusMode changed tallied feed tally events within all any mapi allPass bytes bitsNumber chunksOf chunks entryOf entries numbered flatMap div ofInt ofBits toBits isNan
 computing = tt
 
 -- calls with a buffer of 256 bytes
@@ -45,6 +47,10 @@ spinelFrame f = call 256 (spinel f)
 abbrev pub modbusFrame : List ℕ → Call
 modbusFrame f = call 256 (modbus f)
 
+-- a sample with a buffer of 255 bytes
+abbrev pub sampleShort : ℕ → Call
+sampleShort bits = call 255 (sample bits)
+
 -- an answer with a reply, and one without
 
 abbrev pub reply : ℕ → List ℕ → Reply
@@ -52,6 +58,10 @@ reply n bs = record { refusal = n; bytes = bs }
 
 abbrev pub silently : ℕ → Reply
 silently n = record { refusal = n; bytes = [] }
+
+-- ACK 00 without data, from address 31H, signature 02
+abbrev pub accepted : Reply
+accepted = reply 0 (0x2A ∷ 0x61 ∷ 0x00 ∷ 0x05 ∷ 0x31 ∷ 0x02 ∷ 0x00 ∷ 0x3C ∷ 0x0D ∷ [])
 
 -- a call and its answer
 pub record Exchange : Type 0 where

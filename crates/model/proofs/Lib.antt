@@ -1,5 +1,8 @@
 pub mod Computing
 pub mod RackTable
+pub mod Witnesses
+pub mod Instructions
+pub mod TallyTable
 pub mod Short
 pub mod Refused
 pub mod OneInput

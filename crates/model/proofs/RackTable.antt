@@ -7,8 +7,8 @@ use lib.IntN.{pos}
 use lib.ListN.{replicate}
 use Rattle.model.specs.declared.Module.{Module}
 use Rattle.model.specs.State.{freshModule, withInputs, withCounters}
-use Rattle.model.specs.Calls.{Reply, run}
-use Rattle.model.proofs.Computing.{computing, Plays, _⇒_, reply, silently, sampleOf, temperatureOf, spinelFrame, modbusFrame}
+use Rattle.model.specs.Calls.{run}
+use Rattle.model.proofs.Computing.{computing, Plays, _⇒_, reply, silently, accepted, sampleOf, temperatureOf, spinelFrame, modbusFrame}
 
 -- so many samples with input 1's bit
 abbrev samples : ℕ → Module → Module
@@ -25,10 +25,6 @@ full = withInputs counting (withCounters (counting .inputs) (65535 ∷ replicate
 -- an on pulse of output 1, time 1
 abbrev pulsing : Module
 pulsing = run freshModule (spinelFrame (0x2A ∷ 0x61 ∷ 0x00 ∷ 0x07 ∷ 0x31 ∷ 0x02 ∷ 0x23 ∷ 0x01 ∷ 0x81 ∷ 0x95 ∷ 0x0D ∷ []) ∷ [])
-
--- ACK 00 without data
-abbrev accepted : Reply
-accepted = reply 0 (0x2A ∷ 0x61 ∷ 0x00 ∷ 0x05 ∷ 0x31 ∷ 0x02 ∷ 0x00 ∷ 0x3C ∷ 0x0D ∷ [])
 
 pub record RackTable : Type 0 where
   -- the example of 000
