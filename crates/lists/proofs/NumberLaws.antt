@@ -1,6 +1,7 @@
 -- Numbers and their bytes, for any width. Assumes nothing.
-use Prim.Native.Nat.{ℕ, zero, suc, _+_, _*_, _/_, _%_, _^_}
+use Prim.Native.Nat.{ℕ, zero, suc, _+_, _*_, _/_, _%_, _^_, _<_}
 use native.Mathlib.Omega.{arith}
+use native.Mathlib.Nat.{mul-add-mod-self-left, mod-eq-of-lt, mod-lt, div-add-mod, pow-suc}
 use mathlib.Core.Path.{_≡_, refl, sym, ap, _∙_}
 use mathlib.Core.List.{List, [], _∷_, _++_}
 use lib.ListN.{length, length-append}
@@ -20,7 +21,21 @@ number-snoc : (bs : List ℕ) (b : ℕ) → number (bs ++ b ∷ []) ≡ number b
 number-snoc [] b = omega arith
 number-snoc (c ∷ bs) b = from-snoc c b bs
 
--- two bytes hold a number modulo 65,536
-pub number-two : (n : ℕ) → number (bytes 2 n) ≡ n % 65536
+-- the remainder by p × 256 from that by p
+remainder : (n p : ℕ) → 0 < p → n / 256 % p * 256 + n % 256 ≡ n % (p * 256)
+remainder n p h =
+    let q : n ≡ p * 256 * (n / 256 / p) + (n / 256 % p * 256 + n % 256) = omega (arith, ap (_* 256) (div-add-mod (n / 256) p)) in
+    let l : n / 256 % p * 256 + n % 256 < p * 256 = omega (arith, mod-lt (n / 256) h) in
+    sym (ap (_% (p * 256)) q ∙ mul-add-mod-self-left (p * 256) (n / 256 / p) (n / 256 % p * 256 + n % 256) ∙ mod-eq-of-lt l)
+
+power-positive : (w : ℕ) → 0 < 256 ^ w
+power-positive zero = omega arith
+power-positive (suc w) = rw (pow-suc 256 w) (omega (arith, power-positive w))
+
+-- w bytes hold a number modulo 256 to the w
+pub number-bytes : (w n : ℕ) → number (bytes w n) ≡ n % 256 ^ w
 unfolding bytes
-number-two n = omega arith
+number-bytes zero n = omega arith
+number-bytes (suc w) n =
+    number-snoc (bytes w (n / 256)) (n % 256)
+    ∙ rw (number-bytes w (n / 256), pow-suc 256 w) (remainder n (256 ^ w) (power-positive w))
