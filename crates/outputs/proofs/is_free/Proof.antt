@@ -1,0 +1,33 @@
+use mir.Syntax.{w16}
+use mir.Val.{SFits}
+use mir.Facts.{toZ-ofZ}
+use borrow.Author.Needs.{needs}
+use Rattle.model.specs.Temperature.{free}
+use Rattle.outputs.proofs.Tests.{below}
+use Rattle.outputs.proofs.is_free.Statement.{statement}
+use Rattle.outputs.proofs.is_free.Tie as tie
+use Rattle.outputs.proofs.is_free.Reads as reads
+use Rattle.outputs.proofs.is_free.Lts as lts
+
+enum-known-r : tie.Need-enum-known-r
+enum-known-r c = search needs
+
+enum-told : tie.Need-enum-told
+enum-told c = search needs
+
+returns : tie.Need-returns
+unfolding free
+returns c =
+    let k = c .before .before .before .before .before in
+    let a = k .before .before .before .args in
+    let ft : SFits w16 (k .r .given .0 .0) = search needs in
+    let fx : SFits w16 (a .h .tempx) = search needs in
+    let fy : SFits w16 (a .h .tempy) = search needs in
+    rw (toZ-ofZ ft, toZ-ofZ fx, toZ-ofZ fy, k .r .given .1, below (a .h .flags) 128)
+
+returns-2 : tie.Need-returns-2
+unfolding free
+returns-2 c = rw (c .enum-told .given .1, below (c .before .before .before .args .h .flags) 128)
+
+pub is-free-spec : {M : Type 1} → statement M
+is-free-spec = tie.close (tie.spec enum-known-r enum-told returns returns-2)

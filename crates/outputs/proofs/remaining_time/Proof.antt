@@ -1,0 +1,34 @@
+use borrow.Author.Needs.{needs}
+use native.Mathlib.Omega.{arith}
+use Prim.Native.Nat.{_+_, _/_, _<_, _≤_}
+use borrow.Author.Tests.{lt-ltb, le-ltb}
+use Rattle.model.specs.Outputs.{remaining}
+use Rattle.outputs.proofs.remaining_time.Statement.{statement}
+use Rattle.outputs.proofs.remaining_time.Tie as tie
+use Rattle.outputs.proofs.remaining_time.Reads as reads
+use Rattle.outputs.proofs.remaining_time.Lts as lts
+
+-- src/lib.rt:64:9
+returns : tie.Need-returns
+unfolding remaining
+returns c =
+    let more : 255 < (c .before .args .left + 499) / 500 = omega arith in
+    rw (lt-ltb 255 ((c .before .args .left + 499) / 500) more)
+
+-- src/lib.rt:66:7
+add-result : tie.Need-add-result
+add-result c = search needs
+
+-- src/lib.rt:66:5
+cast-result : tie.Need-cast-result
+cast-result c = search needs
+
+-- src/lib.rt:60:1
+returns-2 : tie.Need-returns-2
+unfolding remaining
+returns-2 c =
+    let few : (c .before .args .left + 499) / 500 ≤ 255 = omega arith in
+    rw (le-ltb 255 ((c .before .args .left + 499) / 500) few)
+
+pub remaining-time-spec : {M : Type 1} → statement M
+remaining-time-spec = tie.close (tie.spec returns add-result cast-result returns-2)

@@ -1,0 +1,75 @@
+// The outputs: sets, pulses counted in samples, remaining time, holding by a thermostat.
+ghost use mathlib.Core.Path.{_≡_};
+ghost use mathlib.Core.List.{map};
+ghost use Rattle.model.specs.State.{output};
+ghost use Rattle.model.specs.Times.{halfSecondSamples, secondSamples};
+ghost use Rattle.model.specs.Outputs.{pulsed, remaining};
+ghost use Rattle.model.specs.Temperature.{free};
+use model::HalfSeconds;
+use model::Output;
+use model::Reading;
+use model::Seconds;
+use model::Thermostat;
+
+// A time in half seconds, 500 samples each.
+pub fn half_second_samples(t: HalfSeconds) -> u32
+    ensures { λ r. ⌜ r ≡ halfSecondSamples t ⌝ }
+{
+    t.0 as u32 * 500
+}
+
+// A time in seconds, 1,000 samples each.
+pub fn second_samples(t: Seconds) -> u32
+    ensures { λ r. ⌜ r ≡ secondSamples t ⌝ }
+{
+    t.0 as u32 * 1000
+}
+
+// An output that is set: that ends its pulse.
+pub fn set(on: bool) -> Output
+    ensures { λ r. ⌜ r ≡ output on 0 ⌝ }
+{
+    Output { on, left: 0 }
+}
+
+// An output that starts a pulse of so many samples.
+pub fn start(on: bool, samples: u32) -> Output
+    ensures { λ r. ⌜ r ≡ output on samples ⌝ }
+{
+    Output { on, left: samples }
+}
+
+// One output after one sample: at a pulse's last sample it turns opposite.
+pub fn pulse(o: Output) -> Output
+    ensures { λ r. ⌜ r ≡ pulsed o ⌝ }
+{
+    let left = o.left;
+    if left == 0 {
+        return o;
+    }
+    if left == 1 {
+        return set(!o.on);
+    }
+    start(o.on, left - 1)
+}
+
+// The remaining time in half seconds, rounded up, at most 255.
+pub fn remaining_time(left: u32) -> u8
+    ensures { λ r. ⌜ r ≡ remaining left ⌝ }
+{
+    if 127_500 < left {
+        return 255;
+    }
+    ((left + 499) / 500) as u8
+}
+
+// Whether a thermostat leaves its output to commands.
+pub fn is_free(r: Reading, h: Thermostat) -> bool
+    ensures { λ q. ⌜ q ≡ free r h ⌝ }
+{
+    let off = h.flags < 128;
+    match r {
+        Reading::Valid(t, _) => off | ((h.tempy <= t) & (t <= h.tempx)),
+        Reading::Fault => off,
+    }
+}
