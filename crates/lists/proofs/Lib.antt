@@ -4,3 +4,4 @@ pub mod Walks
 pub mod ChunkLaws
 pub mod NumberLaws
 pub mod DataLaws
+pub mod Somes

@@ -1,6 +1,6 @@
 -- Tests. `cond t a b` of the library is a where t is true, else b.
-use Prim.Native.Nat.{ℕ}
-use mathlib.Core.Bool.{Bool, true, false, cond, _&&_}
+use Prim.Native.Nat.{ℕ, zero, suc}
+use mathlib.Core.Bool.{Bool, true, false, cond, _&&_, _||_}
 use mathlib.Core.List.{List, [], _∷_}
 use lib.Dec.{leb}
 
@@ -17,3 +17,8 @@ all f (x ∷ xs) = cond (f x) (all f xs) false
 unfoldable pub any : {A : Type 0} → (A → Bool) → List A → Bool
 any f [] = false
 any f (x ∷ xs) = cond (f x) true (any f xs)
+
+-- some number below n passes: what a loop that looks at each has found after n turns
+unfoldable pub someBelow : (ℕ → Bool) → ℕ → Bool
+someBelow f zero = false
+someBelow f (suc n) = someBelow f n || f n

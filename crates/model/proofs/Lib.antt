@@ -3,6 +3,7 @@ pub mod RackTable
 pub mod Witnesses
 pub mod Instructions
 pub mod TallyTable
+pub mod SampleLaws
 pub mod Short
 pub mod Refused
 pub mod OneInput

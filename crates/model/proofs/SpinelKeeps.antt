@@ -120,7 +120,7 @@ module _ (i : ℕ) (small : i < 16) (m : Module) (t : Tally) (v : Inv i (m .inpu
       (cond-eq P c 0x63 _ _ (λ e. rw e (still 0x63 _ refl refl refl refl refl refl refl))
       (cond-eq P c 0x6A _ _ (λ e. rw e modes-good)
       (cond-eq P c 0x6B _ _ (λ e. rw e (still 0x6B _ refl refl refl refl refl refl refl))
-      (cond-eq P c 0xE0 _ _ (λ e. rw e (address-good (q .permitted) (q .toAll)))
+      (cond-eq P c 0xE0 _ _ (λ e. rw e (address-good (q .permitted) (q .toUniversal)))
       (cond-eq P c 0xE3 _ _ (λ e. rw e reset-good)
       (cond-eq P c 0xE4 _ _ (λ e. rw e (still 0xE4 _ refl refl refl refl refl refl refl))
       (cond-eq P c 0xF0 _ _ (λ e. rw e (still 0xF0 _ refl refl refl refl refl refl refl))

@@ -148,13 +148,13 @@ reset m = record {
 
 -- "E4H gives a permission"; to FE it is refused 10
 unfoldable pub givePermission : Bool → List ℕ → Port → Request Port
-givePermission toAll d p = refuse8 (someData d) (refuse10 toAll (accepting (permit true p) []))
+givePermission toUniversal d p = refuse8 (someData d) (refuse10 toUniversal (accepting (permit true p) []))
 
 -- E0H: "address 00 to FD, speed 00 to 0B", needs the permission, "then resets"
 unfoldable pub setPort : Bool → Bool → List ℕ → Module → Request Module
-setPort permitted toAll d m =
+setPort permitted toUniversal d m =
     refuse8 (not (eqb (length d) 2))
-    (refuse10 (toAll || not permitted)
+    (refuse10 (toUniversal || not permitted)
     (refuse11 (not (within 0x00 0xFD (getD d 0 0) && within 0x00 0x0B (getD d 1 0)))
     (accepting (reset (withSpinel m (port (getD d 0 0) (getD d 1 0) false))) [])))
 

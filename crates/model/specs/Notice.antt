@@ -16,6 +16,7 @@ use Rattle.model.specs.Refusals.{Request, accepting, refuse8, refuse11}
 use Rattle.model.specs.Counters.{someData}
 use Rattle.model.specs.Outputs.{statesShown}
 
+-- on: any format byte but 0; 10H stores 61H or 0
 abbrev pub isOn : Notice → Bool
 isOn n = not (eqb (n .format) 0)
 
@@ -31,7 +32,7 @@ setNotice signature d n =
     (refuse11 (cond (eqb (getD d 0 0) 0x01) (isOn n) (not (eqb (getD d 0 0) 0x00 && eqb (length d) 1)))
     (accepting (cond (eqb (getD d 0 0) 0x01) (notice 0x61 (maskGiven d) signature) (notice 0 0 (n .signature))) []))
 
--- "11H reads 61H or 00 and the mask"
+-- "11H reads 61H or 00 and the mask": the format byte as it is stored
 unfoldable pub readNotice : {P : Type 0} → List ℕ → Notice → P → Request P
 readNotice d n p = refuse8 (someData d) (accepting p (n .format ∷ bytes 2 (n .mask)))
 

@@ -91,7 +91,8 @@ setPresets d ps = refuse8 (not (itemsOf 3 d)) (refuse11 (not (all presetSettable
 abbrev pub presetOf : List Preset → ℕ → Preset
 presetOf ps n = getD ps (n - 1) freshPreset
 
--- one preset started; a type other than 0, 2 and 3 would start off first
+-- one preset started. No setting gives a type other than 0, 2 and 3, which would start off first and show as it is stored, nor a time 0
+-- with type 2 or 3, which would be a plain set.
 unfoldable pub startPreset : List Preset → List Output → ℕ → List Output
 startPreset ps os n = set os (n - 1) (output (eqb (presetOf ps n .kind) 2) (halfSecondSamples (presetOf ps n .time)))
 

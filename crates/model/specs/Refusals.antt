@@ -33,7 +33,8 @@ crcWrong f =
     not (eqb (getD f (length f - 2) 0) (crcOf (take (length f - 2) f) % 256)
     && eqb (getD f (length f - 1) 0) (crcOf (take (length f - 2) f) / 256))
 
--- 5. "The address is neither the module's own nor one of that port's special ones"
+-- 5. "The address is neither the module's own nor one of that port's special ones"; an own address equal to a special one, which no
+-- setting gives, means what the special one means
 unfoldable pub spinelAddressWrong : ℕ → ℕ → Bool
 spinelAddressWrong own to = not (eqb to own || (eqb to universal || eqb to spinelBroadcast))
 

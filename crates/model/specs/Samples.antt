@@ -28,7 +28,8 @@ abbrev pub counterLimit : ℕ
 counterLimit = 65535
 
 -- One input's sample, by the sampling number and the sampled bit. "A sample equal to the stable state sets the run to 0. A differing one
--- adds 1; if the run is then at least the sampling number, the state flips, the run becomes 0."
+-- adds 1; if the run is then at least the sampling number, the state flips, the run becomes 0." In states that no run reaches: with the
+-- number 0, or after a run of 255, a differing sample flips.
 unfoldable pub lineSampled : ℕ → Bool → Line → Line
 lineSampled number bit x =
     cond (Bool·beq bit (x .stable)) (line (x .stable) 0)

@@ -16,7 +16,7 @@ use Rattle.model.specs.Temperature.{readTemperature, setThermostats, rea
 -- a request's words: was the port permitted, did it come to FE, its signature, instruction and data
 pub record SpinelRequest : Type 0 where
   pub permitted : Bool
-  pub toAll : Bool
+  pub toUniversal : Bool
   pub signature : ℕ
   pub instruction : ℕ
   pub content : List ℕ
@@ -47,14 +47,14 @@ spinelAsked q m =
     (cond (eqb i 0x63) (readSampling d x m)
     (cond (eqb i 0x6A) (onPart (λ ms. withInputs m (withModes x ms)) (setModesList d (x .modes)))
     (cond (eqb i 0x6B) (listRead (modeShown (x .modes)) d m)
-    (cond (eqb i 0xE0) (setPort (q .permitted) (q .toAll) d m)
+    (cond (eqb i 0xE0) (setPort (q .permitted) (q .toUniversal) d m)
     (cond (eqb i 0xE3) (resetModule d m)
-    (cond (eqb i 0xE4) (onPart (withSpinel m) (givePermission (q .toAll) d (m .spinel)))
+    (cond (eqb i 0xE4) (onPart (withSpinel m) (givePermission (q .toUniversal) d (m .spinel)))
     (cond (eqb i 0xF0) (readPort d (m .spinel) m)
     (notListed m))))))))))))))))))))))))
 
 unfoldable pub spinelRequest : List ℕ → Module → SpinelRequest
-spinelRequest f m = record { permitted = m .spinel .permitted; toAll = eqb (spinelTo f) universal; signature = signatureOf f; instruction = instructionOf f; content = spinelData f }
+spinelRequest f m = record { permitted = m .spinel .permitted; toUniversal = eqb (spinelTo f) universal; signature = signatureOf f; instruction = instructionOf f; content = spinelData f }
 
 -- "a permission for the next request on its port that passes 1 to 6": that request uses it up, accepted or not
 abbrev pub spinelUsed : Module → Module

@@ -120,7 +120,8 @@ freeAt r hs n = free r (getD hs (n - 1) freshThermostat)
 
 -- A temperature sample ----------------------------------------------------------------------
 
--- SS 00: "turns on above TEMPx, off below TEMPy; 01 the reverse"; each a set, which ends a pulse
+-- SS 00: "turns on above TEMPx, off below TEMPy; 01 the reverse"; each a set, which ends a pulse. Were TEMPx below TEMPy, above TEMPx
+-- would go first.
 unfoldable pub levelled : Bool → Thermostat → ℤ → Output → Output
 levelled above h now o = cond (ltZ (h .tempx) now) (output above 0) (cond (ltZ now (h .tempy)) (output (not above) 0) o)
 
@@ -134,7 +135,7 @@ crossed h Fault now = false
 unfoldable pub crossing : Bool → Thermostat → Reading → ℤ → Output → Output
 crossing on h last now o = cond (crossed h last now) (output on (secondSamples (h .time))) o
 
--- "At a valid sample, where F is 1": SS 00, 01, 10, 11
+-- "At a valid sample, where F is 1": SS 00, 01, 10, 11. Another sensor than 1, which no setting gives, would act on the one reading.
 unfoldable pub heated : Reading → ℤ → Thermostat → Output → Output
 heated last now h o =
     cond (not (active h)) o
@@ -142,7 +143,7 @@ heated last now h o =
     (cond (eqb (action h) 1) (levelled false h now o)
     (crossing (eqb (action h) 2) h last now o)))
 
--- "A fault sample, where F is 1, applies ERR: 0 nothing, 1 off, 2 on"
+-- "A fault sample, where F is 1, applies ERR: 0 nothing, 1 off, 2 on"; another ERR, which no setting gives, would do nothing
 unfoldable pub failed : Thermostat → Output → Output
 failed h o =
     cond (not (active h)) o

@@ -5,6 +5,7 @@ ghost use Rattle.model.specs.State.{output};
 ghost use Rattle.model.specs.Times.{halfSecondSamples, secondSamples};
 ghost use Rattle.model.specs.Outputs.{pulsed, remaining};
 ghost use Rattle.model.specs.Temperature.{free};
+ghost use Rattle.outputs.specs.Passes.{anyPulse};
 use model::HalfSeconds;
 use model::Output;
 use model::Reading;
@@ -51,6 +52,40 @@ pub fn pulse(o: Output) -> Output
         return set(!o.on);
     }
     start(o.on, left - 1)
+}
+
+// Whether any output has a pulse.
+pub fn any_pulse(a: [Output; 16]) -> bool
+    ensures { λ r. ⌜ r ≡ anyPulse a ⌝ }
+{
+    let mut found = false;
+    for i in 0..16usize {
+        let o = a[i];
+        found = found | (o.left != 0);
+    }
+    found
+}
+
+// Every output after one sample.
+pub fn pulse_all(a: [Output; 16]) -> [Output; 16]
+    ensures { λ r. ⌜ r ≡ map pulsed a ⌝ }
+{
+    let mut next = a;
+    for i in 0..16usize {
+        let o = next[i];
+        next[i] = pulse(o);
+    }
+    next
+}
+
+// The same. Without a pulse no output moves, and the pass over them is left out.
+pub fn pulse_outputs(a: [Output; 16]) -> [Output; 16]
+    ensures { λ r. ⌜ r ≡ map pulsed a ⌝ }
+{
+    if any_pulse(a) {
+        return pulse_all(a);
+    }
+    a
 }
 
 // The remaining time in half seconds, rounded up, at most 255.

@@ -1,0 +1,16 @@
+-- `inputs::is_selected` meets its contract. Assumes nothing.
+use Rattle.model.specs.Samples.{selectedEdge}
+use Rattle.inputs.proofs.Edges.{selected-formula}
+use Rattle.inputs.proofs.is_selected.Statement.{statement}
+use Rattle.inputs.proofs.is_selected.Tie as tie
+use Rattle.inputs.proofs.is_selected.Reads as reads
+use Rattle.inputs.proofs.is_selected.Lts as lts
+
+returns : tie.Need-returns
+unfolding selectedEdge
+returns c =
+    let a = c .before .before .args in
+    selected-formula (a .mode) (a .was .stable) (a .now .stable)
+
+pub is-selected-spec : {M : Type 1} → statement M
+is-selected-spec = tie.close (tie.spec returns)

@@ -1,0 +1,46 @@
+-- `inputs::sample` meets its contract. Assumes nothing.
+use borrow.Author.Needs.{needs}
+use Prim.Native.Nat.{ℕ}
+use mathlib.Core.Path.{_≡_, refl, sym, _∙_}
+use lib.ListN.{length}
+use Rattle.lists.proofs.DataLaws.{field-length}
+use Rattle.inputs.proofs.Edges.{with-edge, without-edge}
+use Rattle.inputs.proofs.sample.Statement.{statement}
+use Rattle.inputs.proofs.sample.Tie as tie
+use Rattle.inputs.proofs.sample.Reads as reads
+use Rattle.inputs.proofs.sample.Lts as lts
+use Rattle.inputs.proofs.any_edge.Reads as any-edge-reads
+use Rattle.inputs.proofs.count_lines.Reads as count-lines-reads
+use Rattle.inputs.proofs.sample_lines.Reads as sample-lines-reads
+
+sample-lines-requires : tie.Need-sample-lines-requires
+sample-lines-requires c κs = search needs
+
+any-edge-requires : tie.Need-any-edge-requires
+any-edge-requires c κs = search needs
+
+count-lines-requires : tie.Need-count-lines-requires
+count-lines-requires c κs = search needs
+
+lines-long : (c : tie.After-sample-lines) → length (c .sample-lines .result) ≡ 16
+lines-long c = search needs
+
+counters-long : (c : tie.Start) → length (c .args .x .counters) ≡ 16
+counters-long c = field-length (c .args .x .counters) (search needs)
+
+returns : tie.Need-returns
+returns c =
+    let at = c .before .before .before .before in
+    let a = at .before .before .before .args in
+    with-edge (a .bits) (a .x) _ (at .before .sample-lines .ensures) _ _ (at .any-edge .ensures) (c .before .before .before .if1 .taken) (c .count-lines .ensures)
+
+returns-2 : tie.Need-returns-2
+returns-2 c =
+    let at = c .before in
+    let a = at .before .before .before .args in
+    without-edge (a .bits) (a .x) _ (at .before .sample-lines .ensures) _ (at .any-edge .ensures) (c .if1 .left) (lines-long (at .before) ∙ sym (counters-long (at .before .before .before)))
+
+pub sample-spec : {M : Type 1} → statement M
+sample-spec =
+    tie.close
+    (tie.spec sample-lines-requires any-edge-requires count-lines-requires returns returns-2)

@@ -1,0 +1,84 @@
+-- `inputs::sample_lines` meets its contract. Assumes nothing.
+use Prim.Native.Nat.{_-_, _≤_, _<_}
+use mathlib.Core.Path.{_≡_, sym, _∙_}
+use native.Mathlib.Omega.{arith}
+use borrow.Author.Needs.{needs}
+use lib.ListN.{length, getD}
+use Rattle.lists.proofs.Done.{done-none, done-turn, done-all}
+use Rattle.lists.specs.Numbers.{bitAt}
+use Rattle.model.specs.Samples.{lineSampled, linesSampled}
+use Rattle.lists.specs.Mapi.{done}
+use Rattle.model.specs.State.{freshLine}
+use Rattle.inputs.proofs.sample_lines.Statement.{statement}
+use Rattle.inputs.proofs.sample_lines.Tie as tie
+use Rattle.inputs.proofs.sample_lines.Reads as reads
+use Rattle.inputs.proofs.sample_lines.Lts as lts
+use Rattle.inputs.proofs.bit_at.Reads as bit-at-reads
+use Rattle.inputs.proofs.sample_line.Reads as sample-line-reads
+
+abbrev Inv-loop : tie.InvT-loop
+Inv-loop sampling bits next₀ i₀ next i = (i ≤ 16) × (next ≡ done (λ k x. lineSampled sampling (bitAt bits k) x) i next₀)
+
+abbrev μ-loop : tie.MeasureT-loop
+μ-loop sampling bits next₀ i₀ next i = 16 - i
+
+long : (c : tie.Start Inv-loop μ-loop) → length (c .args .a) ≡ 16
+long c = search needs
+
+loop-holds : tie.Need-loop-holds Inv-loop μ-loop
+loop-holds c = (omega arith, sym (done-none _ _))
+
+mul-x : tie.Need-mul-x Inv-loop μ-loop
+mul-x c = omega arith
+
+array-copy-out-x : tie.Need-array-copy-out-x Inv-loop μ-loop
+array-copy-out-x c = omega arith
+
+bit-at-requires : tie.Need-bit-at-requires Inv-loop μ-loop
+bit-at-requires c κs = search needs
+
+sample-line-requires : tie.Need-sample-line-requires Inv-loop μ-loop
+sample-line-requires c κs = search needs
+
+mul-next : tie.Need-mul-next Inv-loop μ-loop
+mul-next c = omega arith
+
+array-set-from-next : tie.Need-array-set-from-next Inv-loop μ-loop
+array-set-from-next c = omega arith
+
+add-i : tie.Need-add-i Inv-loop μ-loop
+add-i c = omega arith
+
+loop-less : tie.Need-loop-less Inv-loop μ-loop
+loop-less c = omega arith
+
+loop-again : tie.Need-loop-again Inv-loop μ-loop
+loop-again c =
+    let p = c .before .before .before .before in
+    let a = p .before .args .a in
+    let h : p .loop .i < length a = rw (long (p .before)) (omega arith) in
+    (omega arith, rw (c .sample-line .ensures, c .before .bit-at .ensures, p .loop .inv .1) (done-turn _ _ a freshLine h))
+
+returns : tie.Need-returns Inv-loop μ-loop
+unfolding linesSampled
+returns c =
+    let e : c .before .loop .i ≡ 16 = omega arith in
+    c .before .loop .inv .1 ∙ rw e (done-all _ 16 (c .before .before .args .a) (long (c .before .before)))
+
+pub sample-lines-spec : {M : Type 1} → statement M
+sample-lines-spec =
+    tie.close
+    (tie.spec
+    Inv-loop
+    μ-loop
+    loop-holds
+    mul-x
+    array-copy-out-x
+    bit-at-requires
+    sample-line-requires
+    mul-next
+    array-set-from-next
+    add-i
+    loop-less
+    loop-again
+    returns)

@@ -1,0 +1,26 @@
+-- What the passes over the lines give.
+use Prim.Native.Nat.{ℕ}
+use mathlib.Core.Bool.{Bool, _&&_}
+use mathlib.Core.List.{List, map}
+use Rattle.lists.specs.Tests.{any}
+use Rattle.lists.specs.Mapi.{mapi}
+use Rattle.lists.specs.Numbers.{bitAt, bitsNumber}
+use Rattle.model.specs.declared.Inputs.{Inputs}
+use Rattle.model.specs.declared.Line.{Line}
+use Rattle.model.specs.Samples.{edges, inputsSampled}
+use Rattle.inputs.specs.declared.Sampled.{Sampled}
+
+-- some line has an edge
+unfoldable pub anyEdge : List Line → List Line → Bool
+anyEdge was now = any (λ b. b) (edges was now)
+
+-- some line whose mask bit is 1 has one
+unfoldable pub anyMasked : ℕ → List Line → List Line → Bool
+anyMasked mask was now = any (λ b. b) (mapi (λ i b. b && bitAt mask i) (edges was now))
+
+-- the stable states as a number
+unfoldable pub stableBits : List Line → ℕ
+stableBits xs = bitsNumber (map (λ (y : Line). y .stable) xs)
+
+unfoldable pub sampledOf : ℕ → Inputs → Sampled
+sampledOf bits x = record { inputs = inputsSampled bits x; edged = anyEdge (x .lines) (inputsSampled bits x .lines) }

@@ -1,0 +1,172 @@
+// The inputs: one sample of a line, the pass over the sixteen, counting by mode, edges.
+ghost use mathlib.Core.Path.{_≡_};
+ghost use mathlib.Core.List.{map};
+ghost use Prim.Native.Nat.{_<_};
+ghost use Rattle.lists.specs.Tests.{any};
+ghost use Rattle.lists.specs.Numbers.{bitAt, bitsNumber};
+ghost use Rattle.model.specs.Samples.{lineSampled, linesSampled, isEdge, edges, selectedEdge, counted, countersSampled, inputsSampled};
+ghost use Rattle.inputs.specs.Passes.{anyEdge, anyMasked, sampledOf, stableBits};
+use model::Inputs;
+use model::Line;
+
+// The inputs after a sample, and whether any of them had an edge.
+pub struct Sampled {
+    pub inputs: Inputs,
+    pub edged: bool,
+}
+
+// Bit i of a sample or of a mask.
+pub fn bit_at(bits: u16, i: usize) -> bool
+    requires { ⌜ i < 16 ⌝ }
+    ensures { λ r. ⌜ r ≡ bitAt bits i ⌝ }
+{
+    (bits >> i) % 2 == 1
+}
+
+// One line's sample: debounce by run and sampling number.
+pub fn sample_line(x: Line, sampling: u8, bit: bool) -> Line
+    ensures { λ r. ⌜ r ≡ lineSampled sampling bit x ⌝ }
+{
+    let stable = x.stable;
+    if bit == stable {
+        return Line { stable, run: 0 };
+    }
+    let run = x.run;
+    let more = (run as u16) + 1;
+    if (sampling as u16) <= more {
+        return Line {
+            stable: bit,
+            run: 0,
+        };
+    }
+    Line {
+        stable,
+        run: run + 1,
+    }
+}
+
+// The pass over the sixteen lines.
+pub fn sample_lines(a: [Line; 16], sampling: u8, bits: u16) -> [Line; 16]
+    ensures { λ r. ⌜ r ≡ linesSampled sampling bits a ⌝ }
+{
+    let mut next = a;
+    for i in 0..16usize {
+        let x = next[i];
+        let bit = bit_at(bits, i);
+        next[i] = sample_line(x, sampling, bit);
+    }
+    next
+}
+
+pub fn is_edge(was: Line, now: Line) -> bool
+    ensures { λ r. ⌜ r ≡ isEdge was now ⌝ }
+{
+    was.stable != now.stable
+}
+
+// Whether a line has an edge that its mode selects.
+pub fn is_selected(mode: u8, was: Line, now: Line) -> bool
+    ensures { λ r. ⌜ r ≡ selectedEdge mode was now ⌝ }
+{
+    let rising = now.stable;
+    (was.stable != now.stable) & ((mode == 3) | ((mode == 1) & rising) | ((mode == 2) & !rising))
+}
+
+// A counter steps by the wrapping add: from 65,535 it goes to 0.
+pub fn count(selected: bool, counter: u16) -> u16
+    ensures { λ r. ⌜ r ≡ counted selected counter ⌝ }
+{
+    if selected {
+        return std::num::wrapping_add_u16(counter, 1);
+    }
+    counter
+}
+
+// Every counter by its own line's edge.
+pub fn count_lines(
+    counters: [u16; 16],
+    modes: [u8; 16],
+    was: [Line; 16],
+    now: [Line; 16],
+) -> [u16; 16]
+    ensures { λ r. ⌜ r ≡ countersSampled modes was now counters ⌝ }
+{
+    let mut next = counters;
+    for i in 0..16usize {
+        let counter = next[i];
+        let mode = modes[i];
+        let before = was[i];
+        let after = now[i];
+        let selected = is_selected(mode, before, after);
+        next[i] = count(selected, counter);
+    }
+    next
+}
+
+// Whether any line has an edge.
+pub fn any_edge(was: [Line; 16], now: [Line; 16]) -> bool
+    ensures { λ r. ⌜ r ≡ anyEdge was now ⌝ }
+{
+    let mut found = false;
+    for i in 0..16usize {
+        let before = was[i];
+        let after = now[i];
+        let edge = is_edge(before, after);
+        found = found | edge;
+    }
+    found
+}
+
+// Whether any line with its mask bit has an edge.
+pub fn any_masked(mask: u16, was: [Line; 16], now: [Line; 16]) -> bool
+    ensures { λ r. ⌜ r ≡ anyMasked mask was now ⌝ }
+{
+    let mut found = false;
+    for i in 0..16usize {
+        let before = was[i];
+        let after = now[i];
+        let bit = bit_at(mask, i);
+        let edge = is_edge(before, after);
+        found = found | (edge & bit);
+    }
+    found
+}
+
+// The stable states as a number, input 1 lowest.
+pub fn stable_bits(a: [Line; 16]) -> u16
+    ensures { λ r. ⌜ r ≡ stableBits a ⌝ }
+{
+    let mut bits: u16 = 0;
+    let mut i = 16usize;
+    while 0 < i {
+        i = i - 1;
+        let x = a[i];
+        let s = x.stable as u16;
+        bits = s + 2 * (bits % 32768);
+    }
+    bits
+}
+
+// The inputs' part of a sample. Without an edge no counter moves, and the pass over them is left out.
+pub fn sample(x: Inputs, bits: u16) -> Sampled
+    ensures { λ r. ⌜ r ≡ sampledOf bits x ⌝ }
+{
+    let was = x.lines;
+    let now = sample_lines(was, x.sampling, bits);
+    let mut next = x;
+    next.lines = now;
+    if any_edge(was, now) {
+        let modes = x.modes;
+        let counters = x.counters;
+        let counted = count_lines(counters, modes, was, now);
+        next.counters = counted;
+        return Sampled {
+            inputs: next,
+            edged: true,
+        };
+    }
+    Sampled {
+        inputs: next,
+        edged: false,
+    }
+}

@@ -1,0 +1,48 @@
+-- `outputs::any_pulse` meets its contract. Assumes nothing.
+use Prim.Native.Nat.{_-_, _≤_, _<_}
+use mathlib.Core.Path.{_≡_, sym, _∙_}
+use Rattle.lists.specs.Tests.{someBelow}
+use Rattle.lists.proofs.Somes.{some-none, some-turn}
+use Rattle.outputs.specs.Passes.{pulseAt, anyPulse}
+use native.Mathlib.Omega.{arith}
+use Rattle.outputs.proofs.any_pulse.Statement.{statement}
+use Rattle.outputs.proofs.any_pulse.Tie as tie
+use Rattle.outputs.proofs.any_pulse.Reads as reads
+use Rattle.outputs.proofs.any_pulse.Lts as lts
+
+abbrev Inv-loop : tie.InvT-loop
+Inv-loop a found₀ i₀ found i = (i ≤ 16) × (found ≡ someBelow (pulseAt a) i)
+
+abbrev μ-loop : tie.MeasureT-loop
+μ-loop a found₀ i₀ found i = 16 - i
+
+loop-holds : tie.Need-loop-holds Inv-loop μ-loop
+loop-holds c = (omega arith, some-none _)
+
+mul-o : tie.Need-mul-o Inv-loop μ-loop
+mul-o c = omega arith
+
+array-copy-out-o : tie.Need-array-copy-out-o Inv-loop μ-loop
+array-copy-out-o c = omega arith
+
+add-i : tie.Need-add-i Inv-loop μ-loop
+add-i c = omega arith
+
+loop-less : tie.Need-loop-less Inv-loop μ-loop
+loop-less c = omega arith
+
+loop-again : tie.Need-loop-again Inv-loop μ-loop
+loop-again c =
+    let p = c .before .before .before in
+    (omega arith, rw (p .loop .inv .1) (some-turn _ _))
+
+returns : tie.Need-returns Inv-loop μ-loop
+unfolding anyPulse
+returns c =
+    let e : c .before .loop .i ≡ 16 = omega arith in
+    c .before .loop .inv .1 ∙ rw e
+
+pub any-pulse-spec : {M : Type 1} → statement M
+any-pulse-spec =
+    tie.close
+    (tie.spec Inv-loop μ-loop loop-holds mul-o array-copy-out-o add-i loop-less loop-again returns)

@@ -1,0 +1,31 @@
+-- `outputs::pulse_outputs` meets its contract. Assumes nothing.
+use borrow.Author.Needs.{needs}
+use mathlib.Core.Path.{_≡_, sym, _∙_}
+use lib.ListN.{length}
+use Rattle.outputs.proofs.Pulses.{no-pulse}
+use Rattle.outputs.proofs.pulse_outputs.Statement.{statement}
+use Rattle.outputs.proofs.pulse_outputs.Tie as tie
+use Rattle.outputs.proofs.pulse_outputs.Reads as reads
+use Rattle.outputs.proofs.pulse_outputs.Lts as lts
+use Rattle.outputs.proofs.any_pulse.Reads as any-pulse-reads
+use Rattle.outputs.proofs.pulse_all.Reads as pulse-all-reads
+
+long : (c : tie.Start) → length (c .args .a) ≡ 16
+long c = search needs
+
+any-pulse-requires : tie.Need-any-pulse-requires
+any-pulse-requires c κs = search needs
+
+pulse-all-requires : tie.Need-pulse-all-requires
+pulse-all-requires c κs = search needs
+
+returns : tie.Need-returns
+returns c = search needs
+
+returns-2 : tie.Need-returns-2
+returns-2 c =
+    let at = c .before in
+    no-pulse (at .before .args .a) (long (at .before)) (sym (at .any-pulse .ensures) ∙ c .if1 .left)
+
+pub pulse-outputs-spec : {M : Type 1} → statement M
+pulse-outputs-spec = tie.close (tie.spec any-pulse-requires pulse-all-requires returns returns-2)
