@@ -11,7 +11,7 @@ use Rattle.lists.specs.Tests.{any, someBelow}
 use Rattle.lists.specs.Mapi.{mapi}
 use Rattle.lists.specs.Numbers.{bitAt}
 use Rattle.lists.proofs.Done.{length-mapi}
-use Rattle.lists.proofs.Somes.{some-any, some-false, mapi-same, mapi-mapi}
+use Rattle.lists.proofs.Somes.{some-any, some-false, none-below, mapi-same, mapi-mapi}
 use Rattle.model.specs.declared.Inputs.{Inputs}
 use Rattle.model.specs.declared.Line.{Line}
 use Rattle.model.specs.State.{freshLine}
@@ -39,6 +39,12 @@ module _ (was now : List Line) where
   unfolding countersSampled counted selectedEdge
   no-edge modes cs e h =
       mapi-same _ cs 0 (λ i l. rw (some-false edgeAt (length was) i (any-edge (length was) refl ∙ h) (omega arith)))
+
+  -- nor is a notice due
+  pub no-mask : (mask : ℕ) → anyEdge was now ≡ false → anyMasked mask was now ≡ false
+  no-mask mask h =
+      sym (any-masked mask (length was) refl)
+      ∙ none-below _ (length was) (λ i l. rw (some-false edgeAt (length was) i (any-edge (length was) refl ∙ h) l))
 
 -- the modes as one formula
 pub selects-formula : (mode : ℕ) (r : Bool) → (eqb mode 3 || (eqb mode 1 && r) || (eqb mode 2 && not r)) ≡ selects mode r

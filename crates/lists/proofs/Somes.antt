@@ -53,6 +53,12 @@ some-false f (suc n) i h l = go (ℕ-discrete i n) (some-false f n i (or-left (s
     go (yes e) r = rw e (or-right (someBelow f n) (f n) h)
     go (no e) r = r (omega arith)
 
+-- each fails: none passes
+pub none-below : (f : ℕ → Bool) (n : ℕ) → ((i : ℕ) → i < n → f i ≡ false) → someBelow f n ≡ false
+unfolding someBelow
+none-below f zero h = refl
+none-below f (suc n) h = rw (none-below f n (λ i l. h i (omega arith)), h n (omega arith))
+
 -- an indexed map that leaves each element as it is
 pub mapi-same : {A : Type 0} (f : ℕ → A → A) (l : List A) (d : A) → ((i : ℕ) → i < length l → f i (getD l i d) ≡ getD l i d) → mapi f l ≡ l
 unfolding mapi

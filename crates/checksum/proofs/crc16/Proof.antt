@@ -1,0 +1,59 @@
+-- `checksum::crc16` meets its contract. The loop's invariant: the bytes still to pass, from what stands now, come to the CRC of all. Assumes nothing.
+use mathlib.Core.Path.{_≡_, refl}
+use mathlib.Core.List.{foldl}
+use Prim.Native.Nat.{_≤_, _-_}
+use lib.ListN.{length, drop}
+use borrow.Author.Needs.{needs}
+use native.Mathlib.Omega.{arith}
+use Rattle.model.specs.Frames.{crcByte, crcOf}
+use Rattle.checksum.proofs.Laws.{fold-next, fold-end}
+use Rattle.checksum.proofs.crc16.Statement.{statement}
+use Rattle.checksum.proofs.crc16.Tie as tie
+
+abbrev Inv-loop : tie.InvT-loop
+Inv-loop s c₀ i₀ c i = (i ≤ length s) × (foldl crcByte c (drop i s) ≡ crcOf s)
+
+abbrev μ-loop : tie.MeasureT-loop
+μ-loop s c₀ i₀ c i = length s - i
+
+loop-holds : tie.Need-loop-holds Inv-loop μ-loop
+unfolding crcOf
+loop-holds c = (omega arith, refl)
+
+shared-slice-read-crc-byte : tie.Need-shared-slice-read-crc-byte Inv-loop μ-loop
+shared-slice-read-crc-byte c = search needs
+
+crc-byte-requires : tie.Need-crc-byte-requires Inv-loop μ-loop
+crc-byte-requires c κs = search needs
+
+add-i : tie.Need-add-i Inv-loop μ-loop
+add-i c = search needs
+
+loop-less : tie.Need-loop-less Inv-loop μ-loop
+loop-less c = search needs
+
+loop-again : tie.Need-loop-again Inv-loop μ-loop
+loop-again c =
+    let head = c .before .before .before in
+    let next = fold-next crcByte (head .loop .c) (head .before .before .args .s .now) (head .loop .i) (c .before .before .loop-test .taken) in
+    (omega arith, cc)
+
+returns : tie.Need-returns Inv-loop μ-loop
+returns c =
+    let head = c .before in
+    let end = fold-end crcByte (head .loop .c) (head .before .before .args .s .now) (head .loop .i) (c .loop-test .left) in
+    cc
+
+pub crc16-spec : {M : Type 1} → statement M
+crc16-spec =
+    tie.close
+    (tie.spec
+    Inv-loop
+    μ-loop
+    loop-holds
+    shared-slice-read-crc-byte
+    crc-byte-requires
+    add-i
+    loop-less
+    loop-again
+    returns)

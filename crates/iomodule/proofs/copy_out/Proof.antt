@@ -1,0 +1,66 @@
+-- `iomodule::copy_out` meets its contract. Assumes nothing.
+use borrow.Author.Needs.{needs}
+use native.Mathlib.Omega.{arith}
+use Prim.Native.Nat.{ℕ, _≤_, _-_}
+use mathlib.Core.Path.{_≡_, refl}
+use mathlib.Core.List.{_++_}
+use denote.Ref.{now}
+use lib.ListN.{length, take, drop, length-set}
+use lib.Seq.{length-take-le}
+use Rattle.lists.proofs.DataLaws.{over-turn}
+use Rattle.iomodule.proofs.copy_out.Statement.{statement}
+use Rattle.iomodule.proofs.copy_out.Tie as tie
+use Rattle.iomodule.proofs.copy_out.Reads as reads
+use Rattle.iomodule.proofs.copy_out.Lts as lts
+
+abbrev Inv-loop : tie.InvT-loop
+Inv-loop n reply₀ bytes i₀ reply i = (i ≤ n) × (length reply ≡ length reply₀) × (reply ≡ take i bytes ++ drop i reply₀)
+
+abbrev μ-loop : tie.MeasureT-loop
+μ-loop n reply₀ bytes i₀ reply i = n - i
+
+loop-holds : tie.Need-loop-holds Inv-loop μ-loop
+loop-holds c = (omega arith, refl, refl)
+
+array-read-reply : tie.Need-array-read-reply Inv-loop μ-loop
+array-read-reply c = search needs
+
+slice-write-reply : tie.Need-slice-write-reply Inv-loop μ-loop
+slice-write-reply c = search needs
+
+add-i : tie.Need-add-i Inv-loop μ-loop
+add-i c = search needs
+
+loop-less : tie.Need-loop-less Inv-loop μ-loop
+loop-less c = search needs
+
+loop-again : tie.Need-loop-again Inv-loop μ-loop
+loop-again c =
+    let at = c .before .loop in
+    let from = c .before .before .args in
+    (omega arith, simp length-set (at .inv .1), rw (at .inv .2) (over-turn (from .t1) (now (from .reply)) (at .i) (omega arith) (omega arith)))
+
+same-length : tie.Need-same-length Inv-loop μ-loop
+same-length c = c .before .loop .inv .1
+
+returns : tie.Need-returns Inv-loop μ-loop
+returns c =
+    let at = c .before .loop in
+    let from = c .before .before .args in
+    let all : at .i ≡ from .n = omega arith in
+    rw (length-take-le (from .n) (from .t1) (omega arith), ← all) (at .inv .2)
+
+pub copy-out-spec : {M : Type 1} → statement M
+copy-out-spec =
+    tie.close
+    (tie.spec
+    Inv-loop
+    μ-loop
+    loop-holds
+    array-read-reply
+    slice-write-reply
+    add-i
+    loop-less
+    loop-again
+    same-length
+    returns)

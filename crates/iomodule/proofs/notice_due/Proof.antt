@@ -1,0 +1,31 @@
+-- `iomodule::notice_due` meets its contract. Assumes nothing.
+use borrow.Author.Needs.{needs}
+use borrow.Author.Tests.{not-true, not-false, eq-eqb, ne-eqb}
+use Rattle.iomodule.specs.Parts.{noticeDue}
+use Rattle.iomodule.proofs.notice_due.Statement.{statement}
+use Rattle.iomodule.proofs.notice_due.Tie as tie
+use Rattle.iomodule.proofs.notice_due.Reads as reads
+use Rattle.iomodule.proofs.notice_due.Lts as lts
+use Rattle.inputs.proofs.any_masked.Reads as any-masked-reads
+
+returns : tie.Need-returns
+unfolding noticeDue
+returns c = rw (not-true (c .before .args .edged) (c .if1 .taken))
+
+returns-2 : tie.Need-returns-2
+unfolding noticeDue
+returns-2 c =
+    let at = c .before .before in
+    rw (not-false (at .before .args .edged) (at .if1 .left), eq-eqb _ _ (c .if2 .taken))
+
+any-masked-requires : tie.Need-any-masked-requires
+any-masked-requires c κs = search needs
+
+returns-3 : tie.Need-returns-3
+unfolding noticeDue
+returns-3 c =
+    let at = c .before .before .before in
+    rw (not-false (at .before .args .edged) (at .if1 .left), ne-eqb _ _ (c .before .if2 .left)) (c .any-masked .ensures)
+
+pub notice-due-spec : {M : Type 1} → statement M
+notice-due-spec = tie.close (tie.spec returns returns-2 any-masked-requires returns-3)

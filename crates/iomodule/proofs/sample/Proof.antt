@@ -1,0 +1,63 @@
+-- `iomodule::sample` meets its contract. Assumes nothing.
+use borrow.Author.Needs.{needs}
+use native.Mathlib.Omega.{arith}
+use mathlib.Core.Path.{refl}
+use denote.Ref.{now}
+use lib.ListN.{length}
+use borrow.Author.Tests.{lt-ltb}
+use Rattle.model.specs.Calls.{sampleCall}
+use Rattle.iomodule.proofs.Laws.{with-notice, without-notice}
+use Rattle.iomodule.proofs.sample.Statement.{statement}
+use Rattle.iomodule.proofs.sample.Tie as tie
+use Rattle.iomodule.proofs.sample.Reads as reads
+use Rattle.iomodule.proofs.sample.Lts as lts
+use Rattle.inputs.proofs.stable_bits.Reads as stable-bits-reads
+use Rattle.iomodule.proofs.copy_out.Reads as copy-out-reads
+use Rattle.iomodule.proofs.notice_data.Reads as notice-data-reads
+use Rattle.iomodule.proofs.step.Reads as step-reads
+
+returns : tie.Need-returns
+unfolding sampleCall
+returns c = rw (lt-ltb _ _ (c .if1 .taken)) (record { answer = refl; buffer = refl })
+
+step-requires : tie.Need-step-requires
+step-requires c κs = search needs
+
+stable-bits-requires : tie.Need-stable-bits-requires
+stable-bits-requires c κs = search needs
+
+notice-data-requires : tie.Need-notice-data-requires
+notice-data-requires c κs = search needs
+
+copy-out-requires : tie.Need-copy-out-requires
+copy-out-requires c κs = search needs
+
+same-length : tie.Need-same-length
+same-length c = search needs
+
+returns-2 : tie.Need-returns-2
+returns-2 c =
+    let copied = c .before .before in
+    let made = copied .before .before .before in
+    let stepped = made .before .before .before .before .before .before .before .before in
+    let a = stepped .before .before .before .args in
+    with-notice (length (now (a .reply))) (a .bits) (a .m) (stepped .step .result) (now (a .reply)) (omega arith) (stepped .step .ensures) _ (made .notice-data .result) _ (made .before .before .before .before .before .before .if2 .taken) (made .before .stable-bits .ensures) (made .notice-data .ensures) (copied .copy-out .ensures)
+
+returns-3 : tie.Need-returns-3
+returns-3 c =
+    let stepped = c .before .before in
+    let a = stepped .before .before .before .args in
+    without-notice (length (now (a .reply))) (a .bits) (a .m) (stepped .step .result) (now (a .reply)) (omega arith) (stepped .step .ensures) (c .if2 .left)
+
+pub sample-spec : {M : Type 1} → statement M
+sample-spec =
+    tie.close
+    (tie.spec
+    returns
+    step-requires
+    stable-bits-requires
+    notice-data-requires
+    copy-out-requires
+    same-length
+    returns-2
+    returns-3)

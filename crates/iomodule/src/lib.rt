@@ -1,0 +1,160 @@
+// The calls.
+ghost use mathlib.Core.Path.{_≡_};
+ghost use Prim.Native.Nat.{_≤_};
+ghost use lib.ListN.{length, take};
+ghost use Rattle.lists.specs.Data.{over};
+ghost use Rattle.model.specs.State.{freshModule};
+ghost use Rattle.model.specs.Temperature.{readingOf, taken};
+ghost use Rattle.model.specs.Calls.{sampleCall, temperatureCall, answerOf, Answered};
+ghost use Rattle.iomodule.specs.Parts.{noticeData, noticeDue, steppedOf};
+use lists::Data;
+use model::Answer;
+use model::Line;
+use model::Module;
+use model::Notice;
+
+// The state after a sample, and whether a notice is due.
+struct Stepped {
+    after: Module,
+    noticed: bool,
+}
+
+// The fifth call: the fresh state.
+pub fn fresh() -> Module
+    ensures { λ r. ⌜ r ≡ freshModule ⌝ }
+{
+    model::fresh()
+}
+
+// The one function that writes a lent buffer: the first n bytes.
+fn copy_out(bytes: [u8; 256], n: usize, reply: &mut [u8])
+    requires { ⌜ (n ≤ 256) × (n ≤ length (now reply)) ⌝ }
+    ensures { λ _. ⌜ now (reply .exit) ≡ over (take n bytes) (now (reply .entry)) ⌝ }
+{
+    let mut i = 0;
+    while i < n {
+        reply[i] = bytes[i];
+        i += 1;
+    }
+}
+
+// The notice's frame: address, signature, ACK 0DH and the states, with its SUM.
+fn notice_data(address: u8, signature: u8, bits: u16) -> Data
+    ensures { λ r. ⌜ r ≡ noticeData address signature bits ⌝ }
+{
+    let high = (bits / 256 % 256) as u8;
+    let low = (bits % 256) as u8;
+    let total = 159 + (address as u16) + (signature as u16) + (high as u16) + (low as u16);
+    let mut bytes = [0u8; 256];
+    bytes[0] = 0x2A;
+    bytes[1] = 0x61;
+    bytes[3] = 7;
+    bytes[4] = address;
+    bytes[5] = signature;
+    bytes[6] = 0x0D;
+    bytes[7] = high;
+    bytes[8] = low;
+    bytes[9] = 255 - (total % 256) as u8;
+    bytes[10] = 0x0D;
+    Data { bytes, len: 11 }
+}
+
+// Whether a notice is due after these edges.
+fn notice_due(n: Notice, edged: bool, was: [Line; 16], now: [Line; 16]) -> bool
+    ensures { λ r. ⌜ r ≡ noticeDue n edged was now ⌝ }
+{
+    if !edged {
+        return false;
+    }
+    if n.format == 0 {
+        return false;
+    }
+    inputs::any_masked(n.mask, was, now)
+}
+
+// Inputs, counters, pulses; then whether the notice is due.
+fn step(m: Module, bits: u16) -> Stepped
+    ensures { λ r. ⌜ r ≡ steppedOf bits m ⌝ }
+{
+    let x = m.inputs;
+    let was = x.lines;
+    let os = m.outputs;
+    let s = inputs::sample(x, bits);
+    let stepped = s.inputs;
+    let now = stepped.lines;
+    let pulsed = outputs::pulse_outputs(os);
+    let notice = m.notice;
+    let noticed = notice_due(notice, s.edged, was, now);
+    let mut next = m;
+    next.inputs = stepped;
+    next.outputs = pulsed;
+    Stepped {
+        after: next,
+        noticed,
+    }
+}
+
+// The millisecond sample: sixteen bits, the lowest is input 1.
+pub fn sample(m: Module, bits: u16, reply: &mut [u8]) -> Answer
+    ensures { λ r. ⌜ Answered (sampleCall (length (now (reply .entry))) bits m) r (now (reply .entry)) (now (reply .exit)) ⌝ }
+{
+    if reply.len() < 256 {
+        return Answer {
+            refusal: 1,
+            len: 0,
+            after: m,
+        };
+    }
+    let s = step(m, bits);
+    let noticed = s.noticed;
+    let after = s.after;
+    if noticed {
+        let x = after.inputs;
+        let lines = x.lines;
+        let p = after.spinel;
+        let n = after.notice;
+        let d = notice_data(p.address, n.signature, inputs::stable_bits(lines));
+        let bytes = d.bytes;
+        copy_out(bytes, 11, reply);
+        return Answer {
+            refusal: 0,
+            len: 11,
+            after,
+        };
+    }
+    Answer {
+        refusal: 0,
+        len: 0,
+        after,
+    }
+}
+
+// The state after a temperature sample: thermostats act, and a valid reading is remembered.
+fn heated(m: Module, good: bool, tenths: i16) -> Module
+    ensures { λ r. ⌜ r ≡ taken (readingOf good tenths) m ⌝ }
+{
+    let os = m.outputs;
+    let hs = m.thermostats;
+    let before = m.last;
+    let t = thermostat::take_reading(os, hs, before, thermostat::reading_of(good, tenths));
+    let outputs = t.outputs;
+    let reading = t.reading;
+    let last = t.last;
+    Module {
+        outputs,
+        reading,
+        last,
+        ..m
+    }
+}
+
+// The temperature sample: a good mark, signed tenths. It has no buffer and no refusal.
+pub fn temperature(m: Module, good: bool, tenths: i16) -> Answer
+    ensures { λ r. ⌜ r ≡ answerOf (temperatureCall 0 good tenths m) ⌝ }
+{
+    Answer {
+        refusal: 0,
+        len: 0,
+        after: heated(m, good, tenths),
+    }
+}

@@ -1,0 +1,54 @@
+-- Runs of generated samples.
+use Prim.Native.Nat.{ℕ, zero, suc, _+_, _*_, _/_, _%_, _^_}
+use mathlib.Core.Bool.{Bool, true, cond}
+use mathlib.Core.List.{List, [], _∷_, _++_}
+use lib.Bits.{bitXor}
+use lib.Dec.{eqb}
+use lib.ListN.{length, replicate}
+use Rattle.model.specs.declared.Module.{Module}
+use Rattle.model.specs.State.{freshModule, output, notice, withInputs, withOutputs, withNotice}
+use Rattle.model.specs.Calls.{sampleCall}
+use Rattle.load.specs.declared.Source.{Source}
+use Rattle.load.specs.declared.Played.{Played}
+
+-- the generator's next number, below 2 to the 31
+abbrev pub nextSeed : ℕ → ℕ
+nextSeed seed = (seed % 2147483648 * 1103515245 + 12345) % 2147483648
+
+-- a typical sample: now and then, one time in 125, one input changes
+unfoldable pub typicalNext : Source → Source
+typicalNext s =
+    let place = nextSeed (s .seed) in
+    let chance = nextSeed place in
+    record { seed = chance; level = cond (eqb (chance / 65536 % 125) 0) (bitXor (s .level) (1 * 2 ^ (place / 65536 % 16) % 65536)) (s .level) }
+
+-- a sample of full load: any sixteen bits
+unfoldable pub noisyNext : Source → Source
+noisyNext s = record { seed = nextSeed (s .seed); level = nextSeed (s .seed) / 32768 % 65536 }
+
+unfoldable pub sourceNext : Bool → Source → Source
+sourceNext noisy s = cond noisy (noisyNext s) (typicalNext s)
+
+-- one sample more: the state after it, and the bytes of its reply added up modulo 2 to the 64
+unfoldable pub playOne : ℕ → Bool → Played → Played
+playOne room noisy p =
+    let s = sourceNext noisy (p .source) in
+    record {
+      after = sampleCall room (s .level) (p .after) .after;
+      source = s;
+      written = (p .written + length (sampleCall room (s .level) (p .after) .reply)) % 2 ^ 64;
+    }
+
+-- n of them
+unfoldable pub playMany : ℕ → Bool → ℕ → Played → Played
+playMany room noisy zero p = p
+playMany room noisy (suc n) p = playOne room noisy (playMany room noisy n p)
+
+-- both edges counted, the notice on for all inputs; the first four outputs pulse, the others for `rest` samples
+unfoldable pub startOf : ℕ → ℕ → Played
+startOf sampling rest = record {
+  after = withNotice (withOutputs (withInputs freshModule (record { lines = freshModule .inputs .lines; modes = replicate 16 3; counters = freshModule .inputs .counters; sampling = sampling }))
+      (replicate 4 (output true 3000000) ++ replicate 12 (output true rest))) (notice 0x61 0xFFFF 2);
+  source = record { seed = 12345; level = 0 };
+  written = 0;
+}

@@ -1,0 +1,136 @@
+// Runs of generated samples, typical and full load: their outcome is checked, and they are timed.
+ghost use mathlib.Core.Path.{_≡_};
+ghost use lib.ListN.{length};
+ghost use Rattle.load.specs.Play.{nextSeed, typicalNext, noisyNext, sourceNext, playOne, playMany, startOf};
+use model::Module;
+use model::Notice;
+use model::Output;
+
+// Where the generator stands: its last number, and the sixteen bits of the last sample.
+pub struct Source {
+    pub seed: u32,
+    pub level: u16,
+}
+
+// The state after some samples, and how many bytes their notices had.
+pub struct Played {
+    pub after: Module,
+    pub source: Source,
+    pub written: u64,
+}
+
+fn next_seed(seed: u32) -> u32
+    ensures { λ r. ⌜ r ≡ nextSeed seed ⌝ }
+{
+    ((seed as u64 % 2147483648 * 1103515245 + 12345) % 2147483648) as u32
+}
+
+// Now and then one input changes.
+fn typical_next(s: Source) -> Source
+    ensures { λ r. ⌜ r ≡ typicalNext s ⌝ }
+{
+    let place = next_seed(s.seed);
+    let chance = next_seed(place);
+    let level = s.level;
+    if chance / 65536 % 125 == 0 {
+        let bit = 1u16 << (place / 65536 % 16);
+        return Source {
+            seed: chance,
+            level: level ^ bit,
+        };
+    }
+    Source {
+        seed: chance,
+        level,
+    }
+}
+
+// Any sixteen bits.
+fn noisy_next(s: Source) -> Source
+    ensures { λ r. ⌜ r ≡ noisyNext s ⌝ }
+{
+    let seed = next_seed(s.seed);
+    Source {
+        seed,
+        level: (seed / 32768 % 65536) as u16,
+    }
+}
+
+fn source_next(noisy: bool, s: Source) -> Source
+    ensures { λ r. ⌜ r ≡ sourceNext noisy s ⌝ }
+{
+    if noisy {
+        return noisy_next(s);
+    }
+    typical_next(s)
+}
+
+// One sample more.
+fn play_one(noisy: bool, p: Played, reply: &mut [u8]) -> Played
+    ensures { λ r. ⌜ r ≡ playOne (length (now (reply .entry))) noisy p ⌝ }
+{
+    let m = p.after;
+    let last = p.source;
+    let s = source_next(noisy, last);
+    let a = iomodule::sample(m, s.level, reply);
+    let after = a.after;
+    Played {
+        after,
+        source: s,
+        written: std::num::wrapping_add_u64(p.written, a.len as u64),
+    }
+}
+
+// n samples, one after another.
+pub fn play(noisy: bool, n: u32, p: Played, reply: &mut [u8]) -> Played
+    ensures { λ r. ⌜ r ≡ playMany (length (now (reply .entry))) noisy n p ⌝ }
+{
+    let mut q = p;
+    let mut i = 0;
+    while i < n {
+        let t = play_one(noisy, q, reply);
+        q = t;
+        i += 1;
+    }
+    q
+}
+
+// The state to start from: four pulses, and twelve of `rest` samples.
+pub fn start(sampling: u8, rest: u32) -> Played
+    ensures { λ r. ⌜ r ≡ startOf sampling rest ⌝ }
+{
+    let f = model::fresh();
+    let mut inputs = f.inputs;
+    inputs.modes = [3; 16];
+    inputs.sampling = sampling;
+    let first = Output {
+        on: true,
+        left: 3_000_000,
+    };
+    let mut outputs = [Output {
+        on: true,
+        left: rest,
+    }; 16];
+    outputs[0] = first;
+    outputs[1] = first;
+    outputs[2] = first;
+    outputs[3] = first;
+    let notice = Notice {
+        format: 0x61,
+        mask: 0xFFFF,
+        signature: 2,
+    };
+    Played {
+        after: Module {
+            inputs,
+            outputs,
+            notice,
+            ..f
+        },
+        source: Source {
+            seed: 12345,
+            level: 0,
+        },
+        written: 0,
+    }
+}

@@ -1,0 +1,4 @@
+pub mod Signed
+pub mod NoNan
+pub mod Bits
+pub mod Limit

@@ -1,0 +1,23 @@
+-- `octets::push` meets its contract: the test for room is the one of `pushed`. Assumes nothing.
+use borrow.Author.Needs.{needs}
+use Rattle.lists.specs.Data.{pushed}
+use borrow.Author.Tests.{lt-ltb, le-ltb}
+use Rattle.octets.proofs.push.Statement.{statement}
+use Rattle.octets.proofs.push.Tie as tie
+
+element-write-next : tie.Need-element-write-next
+element-write-next c = search needs
+
+add-next : tie.Need-add-next
+add-next c = search needs
+
+returns : tie.Need-returns
+unfolding pushed
+returns c = rw (lt-ltb _ _ (c .if1 .taken))
+
+returns-2 : tie.Need-returns-2
+unfolding pushed
+returns-2 c = rw (le-ltb _ _ (c .if1 .left))
+
+pub push-spec : {M : Type 1} → statement M
+push-spec = tie.close (tie.spec element-write-next add-next returns returns-2)

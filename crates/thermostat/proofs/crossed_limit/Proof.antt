@@ -1,0 +1,54 @@
+use Prim.Native.Nat.{_/_, _%_}
+use borrow.Author.Tests.{eq-eqb, ne-eqb}
+use mir.Syntax.{w16}
+use mir.Val.{SFits}
+use mir.Facts.{toZ-ofZ}
+use Rattle.model.specs.Temperature.{crossed}
+use borrow.Author.Needs.{needs}
+use Rattle.thermostat.proofs.crossed_limit.Statement.{statement}
+use Rattle.thermostat.proofs.crossed_limit.Tie as tie
+use Rattle.thermostat.proofs.crossed_limit.Reads as reads
+use Rattle.thermostat.proofs.crossed_limit.Lts as lts
+use Rattle.thermostat.proofs.fell.Reads as fell-reads
+use Rattle.thermostat.proofs.rose.Reads as rose-reads
+
+enum-known-last : tie.Need-enum-known-last
+enum-known-last c = search needs
+
+enum-told : tie.Need-enum-told
+enum-told c = search needs
+
+returns : tie.Need-returns
+unfolding crossed
+returns c = rw (c .enum-told .given .1)
+
+fell-requires : tie.Need-fell-requires
+fell-requires c κs = search needs
+
+returns-2 : tie.Need-returns-2
+unfolding crossed
+returns-2 c =
+    let k = c .before .before .before .before .before in
+    let s = k .before .before in
+    let ft : SFits w16 (k .last .given .0 .0) = search needs in
+    let fy : SFits w16 (s .args .h .tempy) = search needs in
+    rw (k .last .given .1, eq-eqb (s .args .h .flags / 16 % 2) 1 (c .before .before .if1 .taken))
+    (rw (toZ-ofZ fy, toZ-ofZ ft, toZ-ofZ (s .fits .now)) at (c .fell .ensures))
+
+rose-requires : tie.Need-rose-requires
+rose-requires c κs = search needs
+
+returns-3 : tie.Need-returns-3
+unfolding crossed
+returns-3 c =
+    let k = c .before .before .before .before .before in
+    let s = k .before .before in
+    let ft : SFits w16 (k .last .given .0 .0) = search needs in
+    let fx : SFits w16 (s .args .h .tempx) = search needs in
+    rw (k .last .given .1, ne-eqb (s .args .h .flags / 16 % 2) 1 (c .before .before .if1 .left))
+    (rw (toZ-ofZ fx, toZ-ofZ ft, toZ-ofZ (s .fits .now)) at (c .rose .ensures))
+
+pub crossed-limit-spec : {M : Type 1} → statement M
+crossed-limit-spec =
+    tie.close
+    (tie.spec enum-known-last enum-told returns fell-requires returns-2 rose-requires returns-3)

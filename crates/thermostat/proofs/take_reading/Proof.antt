@@ -1,0 +1,48 @@
+use mathlib.Core.Path.{_≡_}
+use mir.Syntax.{w16}
+use mir.Val.{SFits}
+use mir.Facts.{toZ-ofZ}
+use Rattle.model.specs.Temperature.{heated, byThermostat}
+use Rattle.thermostat.specs.Parts.{takenParts}
+use borrow.Author.Needs.{needs}
+use Rattle.thermostat.proofs.take_reading.Statement.{statement}
+use Rattle.thermostat.proofs.take_reading.Tie as tie
+use Rattle.thermostat.proofs.take_reading.Reads as reads
+use Rattle.thermostat.proofs.take_reading.Lts as lts
+use Rattle.thermostat.proofs.fail_outputs.Reads as fail-outputs-reads
+use Rattle.thermostat.proofs.heat_outputs.Reads as heat-outputs-reads
+
+enum-known-r : tie.Need-enum-known-r
+enum-known-r c = search needs
+
+heat-outputs-requires : tie.Need-heat-outputs-requires
+heat-outputs-requires c κs = search needs
+
+enum-told : tie.Need-enum-told
+enum-told c = search needs
+
+fail-outputs-requires : tie.Need-fail-outputs-requires
+fail-outputs-requires c κs = search needs
+
+-- what the callee answered, of the tenths themselves
+heated-outputs : (c : tie.After-heat-outputs) → let k = c .before .before in let a = k .before .before .args in
+    c .heat-outputs .result ≡ byThermostat (heated (a .last) (k .r .given .0 .0)) (a .hs) (a .os)
+heated-outputs c =
+    let k = c .before .before in
+    let ft : SFits w16 (k .r .given .0 .0) = search needs in
+    rw (toZ-ofZ ft) at (c .heat-outputs .ensures)
+
+returns : tie.Need-returns
+unfolding takenParts
+returns c =
+    let k = c .before .before in
+    rw (heated-outputs c, k .r .given .1)
+
+returns-2 : tie.Need-returns-2
+unfolding takenParts
+returns-2 c = rw (c .fail-outputs .ensures, c .before .enum-told .given .1)
+
+pub take-reading-spec : {M : Type 1} → statement M
+take-reading-spec =
+    tie.close
+    (tie.spec enum-known-r heat-outputs-requires enum-told fail-outputs-requires returns returns-2)

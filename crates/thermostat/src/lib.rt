@@ -1,0 +1,150 @@
+// The thermometer and the thermostats: what a temperature sample does.
+ghost use mathlib.Core.Path.{_≡_};
+ghost use mathlib.Core.Bool.{_&&_};
+ghost use lib.Signed.{ltZ, leZ};
+ghost use Rattle.model.specs.Temperature.{readingOf, levelled, crossed, crossing, heated, failed, byThermostat};
+ghost use Rattle.thermostat.specs.Parts.{takenParts};
+use model::Output;
+use model::Reading;
+use model::Thermostat;
+
+// A sample's reading: a good mark and tenths from -1,000 to 2,000, else a fault.
+pub fn reading_of(good: bool, tenths: i16) -> Reading
+    ensures { λ r. ⌜ r ≡ readingOf good tenths ⌝ }
+{
+    if good & ((-1000 <= tenths) & (tenths <= 2000)) {
+        return Reading::Valid(tenths, tenths as f32 / 10.0);
+    }
+    Reading::Fault
+}
+
+// SS 00 (`above` is true) and 01 (`above` is false): the output's state above TEMPx, the opposite below TEMPy.
+fn level(above: bool, h: Thermostat, now: i16, o: Output) -> Output
+    ensures { λ r. ⌜ r ≡ levelled above h now o ⌝ }
+{
+    if h.tempx < now {
+        return outputs::set(above);
+    }
+    if now < h.tempy {
+        return outputs::set(!above);
+    }
+    o
+}
+
+// From at most TEMPx to above it.
+fn rose(x: i16, last: i16, now: i16) -> bool
+    ensures { λ r. ⌜ r ≡ (leZ last x && ltZ x now) ⌝ }
+{
+    (last <= x) & (x < now)
+}
+
+// From at least TEMPy to below it.
+fn fell(y: i16, last: i16, now: i16) -> bool
+    ensures { λ r. ⌜ r ≡ (leZ y last && ltZ now y) ⌝ }
+{
+    (y <= last) & (now < y)
+}
+
+// Whether the reading crossed its limit: TEMPx upwards (K 0) or TEMPy downwards (K 1).
+fn crossed_limit(h: Thermostat, last: Reading, now: i16) -> bool
+    ensures { λ r. ⌜ r ≡ crossed h last now ⌝ }
+{
+    let Reading::Valid(t, _) = last else {
+        return false;
+    };
+    if h.flags / 16 % 2 == 1 {
+        return fell(h.tempy, t, now);
+    }
+    rose(h.tempx, t, now)
+}
+
+// SS 10 (`on` is true) and 11 (`on` is false): a crossing starts a pulse of TIME seconds.
+fn cross(on: bool, h: Thermostat, last: Reading, now: i16, o: Output) -> Output
+    ensures { λ r. ⌜ r ≡ crossing on h last now o ⌝ }
+{
+    if crossed_limit(h, last, now) {
+        return outputs::start(on, outputs::second_samples(h.time));
+    }
+    o
+}
+
+// One output at a valid sample, by its thermostat's SS.
+fn heat(last: Reading, now: i16, h: Thermostat, o: Output) -> Output
+    ensures { λ r. ⌜ r ≡ heated last now h o ⌝ }
+{
+    if h.flags < 128 {
+        return o;
+    }
+    let ss = h.flags / 32 % 4;
+    match ss {
+        0 => level(true, h, now, o),
+        1 => level(false, h, now, o),
+        _ => cross(ss == 2, h, last, now, o),
+    }
+}
+
+// One output at a fault sample: ERR 0 nothing, 1 off, 2 on.
+fn fail(h: Thermostat, o: Output) -> Output
+    ensures { λ r. ⌜ r ≡ failed h o ⌝ }
+{
+    if h.flags < 128 {
+        return o;
+    }
+    let err = h.err;
+    match err {
+        1 => outputs::set(false),
+        2 => outputs::set(true),
+        _ => o,
+    }
+}
+
+// The sixteen at a valid sample.
+pub fn heat_outputs(last: Reading, now: i16, hs: [Thermostat; 16], os: [Output; 16]) -> [Output; 16]
+    ensures { λ r. ⌜ r ≡ byThermostat (heated last now) hs os ⌝ }
+{
+    let mut next = os;
+    for i in 0..16usize {
+        let h = hs[i];
+        let o = next[i];
+        next[i] = heat(last, now, h, o);
+    }
+    next
+}
+
+// The sixteen at a fault sample.
+pub fn fail_outputs(hs: [Thermostat; 16], os: [Output; 16]) -> [Output; 16]
+    ensures { λ r. ⌜ r ≡ byThermostat failed hs os ⌝ }
+{
+    let mut next = os;
+    for i in 0..16usize {
+        let h = hs[i];
+        let o = next[i];
+        next[i] = fail(h, o);
+    }
+    next
+}
+
+// What a temperature sample changes.
+pub struct Taken {
+    pub outputs: [Output; 16],
+    pub reading: Reading,
+    pub last: Reading,
+}
+
+// A new reading: the thermostats act, and a valid one is the last valid from now on.
+pub fn take_reading(os: [Output; 16], hs: [Thermostat; 16], last: Reading, r: Reading) -> Taken
+    ensures { λ t. ⌜ t ≡ takenParts os hs last r ⌝ }
+{
+    match r {
+        Reading::Valid(now, _) => Taken {
+            outputs: heat_outputs(last, now, hs, os),
+            reading: r,
+            last: r,
+        },
+        Reading::Fault => Taken {
+            outputs: fail_outputs(hs, os),
+            reading: r,
+            last,
+        },
+    }
+}
