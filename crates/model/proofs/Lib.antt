@@ -4,6 +4,7 @@ pub mod Witnesses
 pub mod Instructions
 pub mod TallyTable
 pub mod SampleLaws
+pub mod Judged
 pub mod Short
 pub mod Refused
 pub mod OneInput

@@ -120,6 +120,10 @@ pub record Done (P : Type 0) : Type 0 where
 abbrev pub refused : {P : Type 0} → ℕ → P → Done P
 refused n p = record { refusal = n; part = p; reply = [] }
 
+-- the answer about a part, as one about the whole
+abbrev pub doneAt : {P Q : Type 0} → (P → Q) → Done P → Done Q
+doneAt put o = record { refusal = o .refusal; part = put (o .part); reply = o .reply }
+
 -- 7 to 12 in checking order; "A refusal changes no state" and has no data
 unfoldable pub judged : {P : Type 0} → P → Request P → Done P
 judged before q =

@@ -14,6 +14,12 @@ pub struct Words {
     pub low: u16,
 }
 
+// The answer to a request that only reads: the refusal's number or 0, and the reply's data.
+pub struct Told {
+    pub refusal: u8,
+    pub reply: Data,
+}
+
 // No bytes.
 pub fn empty() -> Data
     ensures { λ r. ⌜ r ≡ dataOf [] ⌝ }
@@ -198,4 +204,21 @@ pub fn bits_word(bs: [bool; 16]) -> u16
         acc = b + 2 * acc;
     }
     acc
+}
+
+// A refused read: no data.
+pub fn refuse(refusal: u8) -> Told
+    ensures { λ r. ⌜ r ≡ record { refusal = refusal; reply = dataOf [] } ⌝ }
+{
+    Told {
+        refusal,
+        reply: empty(),
+    }
+}
+
+// An accepted read with its data.
+pub fn tell(reply: Data) -> Told
+    ensures { λ r. ⌜ r ≡ record { refusal = 0; reply = reply } ⌝ }
+{
+    Told { refusal: 0, reply }
 }
