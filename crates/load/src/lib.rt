@@ -134,3 +134,12 @@ pub fn start(sampling: u8, rest: u32) -> Played
         written: 0,
     }
 }
+
+// One load from its start, for a caller that times it: the bytes of its notices.
+#[no_mangle]
+pub extern "C" fn load_play(noisy: bool, n: u32, sampling: u8, rest: u32, reply: &mut [u8]) -> u64
+    ensures { λ r. ⌜ r ≡ playMany (length (now (reply .entry))) noisy n (startOf sampling rest) .written ⌝ }
+{
+    let p = play(noisy, n, start(sampling, rest), reply);
+    p.written
+}

@@ -43,10 +43,6 @@ linesSampled number bits xs = mapi (λ i x. lineSampled number (bitAt bits i) x)
 abbrev pub isEdge : Line → Line → Bool
 isEdge was now = not (Bool·beq (was .stable) (now .stable))
 
--- which inputs have an edge
-unfoldable pub edges : List Line → List Line → List Bool
-edges was now = mapi (λ i x. isEdge x (getD now i freshLine)) was
-
 -- "Modes: 0 none, 1 rising, 2 falling, 3 both"; a mode above 3 would select none
 unfoldable pub selects : ℕ → Bool → Bool
 selects mode rising =
@@ -57,6 +53,10 @@ selects mode rising =
 -- selected edge (01): an edge that the mode at that moment selects, "rising if the new state is 1"
 unfoldable pub selectedEdge : ℕ → Line → Line → Bool
 selectedEdge mode was now = isEdge was now && selects mode (now .stable)
+
+-- which inputs have an edge
+unfoldable pub edges : List Line → List Line → List Bool
+edges was now = mapi (λ i x. isEdge x (getD now i freshLine)) was
 
 -- "A selected edge adds 1 to the counter", which "goes from 65,535 to 0 on purpose"
 unfoldable pub counted : Bool → ℕ → ℕ

@@ -1,0 +1,23 @@
+-- `load::load_play` meets its contract. Assumes nothing.
+use borrow.Author.Needs.{needs}
+use Rattle.load.proofs.load_play.Statement.{statement}
+use Rattle.load.proofs.load_play.Tie as tie
+use Rattle.load.proofs.load_play.Reads as reads
+use Rattle.load.proofs.load_play.Lts as lts
+use Rattle.load.proofs.play.Reads as play-reads
+use Rattle.load.proofs.start.Reads as start-reads
+
+start-requires : tie.Need-start-requires
+start-requires c κs = search needs
+
+play-requires : tie.Need-play-requires
+play-requires c κs = search needs
+
+same-length : tie.Need-same-length
+same-length c = search needs
+
+returns : tie.Need-returns
+returns c = rw (c .before .before .play .ensures, c .before .before .before .before .start .ensures)
+
+pub load-play-spec : {M : Type 1} → statement M
+load-play-spec = tie.close (tie.spec start-requires play-requires same-length returns)
