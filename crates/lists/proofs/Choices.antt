@@ -1,12 +1,12 @@
 -- Tests and choices taken apart. Assumes nothing.
 use Prim.Native.Nat.{ℕ, zero, suc, _≤_, _<_}
 use native.Mathlib.Omega.{arith}
-use lib.Dec.{eqb, leb}
+use lib.Dec.{eqb, leb, ltb, leb·zero}
 use lib.ListN.{length, drop, getD, drop-of-length-le}
 use lib.Seq.{drop-cons}
-use borrow.Author.Tests.{eqb-true, leb-true, le-leb, lt-leb}
+use borrow.Author.Tests.{eqb-true, leb-true, leb-false, le-leb, lt-leb, le-ltb, lt-ltb}
 use mathlib.Core.Path.{_≡_, refl, sym}
-use mathlib.Core.Bool.{Bool, true, false, cond, _&&_, _||_}
+use mathlib.Core.Bool.{Bool, true, false, cond, not, _&&_, _||_}
 use mathlib.Core.List.{List, [], _∷_}
 use Rattle.lists.specs.Tests.{within, all}
 
@@ -34,6 +34,27 @@ or-left false b h = refl
 pub or-right : (a b : Bool) → (a || b) ≡ false → b ≡ false
 or-right true b h = cc
 or-right false b h = h
+
+pub not-or : (a b : Bool) → not (a || b) ≡ (not a && not b)
+not-or true b = refl
+not-or false b = refl
+
+pub not-and : (a b : Bool) → not (a && b) ≡ (not a || not b)
+not-and true b = refl
+not-and false b = refl
+
+-- the two orders' tests are opposites
+pub below : (a b : ℕ) → ltb a b ≡ not (leb b a)
+below a b = go (leb b a) refl
+  where
+    go : (t : Bool) → leb b a ≡ t → ltb a b ≡ not t
+    go true e = le-ltb a b (leb-true b a e)
+    go false e = lt-ltb a b (leb-false b a e)
+
+-- from 0 on there is only the upper end
+pub within-zero : (high x : ℕ) → not (within 0 high x) ≡ ltb high x
+unfolding within
+within-zero high x = rw (leb·zero x) (sym (below high x))
 
 module _ (low high x : ℕ) where
   pub within-low : within low high x ≡ true → low ≤ x

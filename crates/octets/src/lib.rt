@@ -4,7 +4,7 @@ ghost use mathlib.Core.List.{[], _∷_};
 ghost use Prim.Native.Nat.{_-_, _/_, _%_, min};
 ghost use lib.ListN.{getD, set};
 ghost use Rattle.lists.specs.Data.{dataOf, pushed, extended, held};
-ghost use Rattle.lists.specs.Numbers.{number, bytes, bitsNumber};
+ghost use Rattle.lists.specs.Numbers.{number, wordAt, bytes, bitsNumber};
 ghost use Rattle.model.specs.Temperature.{signedOf, patternOf, floatBits};
 use lists::Data;
 
@@ -221,4 +221,22 @@ pub fn tell(reply: Data) -> Told
     ensures { λ r. ⌜ r ≡ record { refusal = 0; reply = reply } ⌝ }
 {
     Told { refusal: 0, reply }
+}
+
+// The byte at i, or 0 past the end.
+pub fn at(d: &[u8], i: usize) -> u8
+    ensures { λ r. ⌜ r ≡ getD (now (d .entry)) i 0 ⌝ }
+{
+    if i < d.len() { d[i] } else { 0 }
+}
+
+// Two bytes from i on as a number.
+pub fn word_from(d: &[u8], i: usize) -> u16
+    ensures { λ r. ⌜ r ≡ wordAt (now (d .entry)) i ⌝ }
+{
+    if i < d.len() {
+        be16(d[i], at(d, i + 1))
+    } else {
+        0
+    }
 }

@@ -3,7 +3,7 @@ use mir.Val.{SFits}
 use mir.Facts.{toZ-ofZ}
 use borrow.Author.Needs.{needs}
 use Rattle.model.specs.Temperature.{free}
-use Rattle.outputs.proofs.Tests.{below}
+use Rattle.lists.proofs.Choices.{below}
 use Rattle.outputs.proofs.is_free.Statement.{statement}
 use Rattle.outputs.proofs.is_free.Tie as tie
 use Rattle.outputs.proofs.is_free.Reads as reads

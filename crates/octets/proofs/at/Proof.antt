@@ -1,0 +1,21 @@
+-- `octets::at` meets its contract. Assumes nothing.
+use borrow.Author.Needs.{needs}
+use mathlib.Core.Path.{sym}
+use denote.Ref.{now}
+use lib.ListN.{List·getD-eq-default}
+use Rattle.octets.proofs.at.Statement.{statement}
+use Rattle.octets.proofs.at.Tie as tie
+use Rattle.octets.proofs.at.Reads as reads
+use Rattle.octets.proofs.at.Lts as lts
+
+shared-slice-read-result : tie.Need-shared-slice-read-result
+shared-slice-read-result c = search needs
+
+returns : tie.Need-returns
+returns c = search needs
+
+returns-2 : tie.Need-returns-2
+returns-2 c = sym (List·getD-eq-default (now (c .before .args .d)) 0 (c .if1 .left))
+
+pub at-spec : {M : Type 1} → statement M
+at-spec = tie.close (tie.spec shared-slice-read-result returns returns-2)

@@ -1,0 +1,28 @@
+-- `settings::give_permission` meets its contract. Assumes nothing.
+use borrow.Author.Needs.{needs}
+use borrow.Author.Tests.{eq-eqb, ne-eqb}
+use Rattle.model.specs.Refusals.{judged}
+use Rattle.model.specs.Counters.{givePermission}
+use Rattle.settings.proofs.give_permission.Statement.{statement}
+use Rattle.settings.proofs.give_permission.Tie as tie
+use Rattle.settings.proofs.give_permission.Reads as reads
+use Rattle.settings.proofs.give_permission.Lts as lts
+use Rattle.settings.proofs.permitted.Reads as permitted-reads
+
+returns : tie.Need-returns
+unfolding judged givePermission
+returns c = rw (ne-eqb _ _ (c .if1 .taken))
+
+returns-2 : tie.Need-returns-2
+unfolding judged givePermission
+returns-2 c = rw (eq-eqb _ _ (c .before .if1 .left), c .if2 .taken)
+
+permitted-requires : tie.Need-permitted-requires
+permitted-requires c κs = search needs
+
+returns-3 : tie.Need-returns-3
+unfolding judged givePermission
+returns-3 c = rw (eq-eqb _ _ (c .before .before .if1 .left), c .before .if2 .left, c .permitted .ensures)
+
+pub give-permission-spec : {M : Type 1} → statement M
+give-permission-spec = tie.close (tie.spec returns returns-2 permitted-requires returns-3)

@@ -1,0 +1,20 @@
+-- `settings::mask_given` meets its contract. Assumes nothing.
+use borrow.Author.Needs.{needs}
+use borrow.Author.Tests.{eq-eqb, ne-eqb}
+use Rattle.settings.proofs.mask_given.Statement.{statement}
+use Rattle.settings.proofs.mask_given.Tie as tie
+use Rattle.settings.proofs.mask_given.Reads as reads
+use Rattle.settings.proofs.mask_given.Lts as lts
+use Rattle.octets.proofs.word_from.Reads as word-from-reads
+
+returns : tie.Need-returns
+returns c = rw (eq-eqb _ _ (c .if1 .taken))
+
+word-from-requires : tie.Need-word-from-requires
+word-from-requires c κs = search needs
+
+returns-2 : tie.Need-returns-2
+returns-2 c = rw (ne-eqb _ _ (c .before .if1 .left)) (c .word-from .ensures)
+
+pub mask-given-spec : {M : Type 1} → statement M
+mask-given-spec = tie.close (tie.spec returns word-from-requires returns-2)

@@ -1,0 +1,52 @@
+-- `settings::read_notice` meets its contract. Assumes nothing.
+use borrow.Author.Needs.{needs}
+use borrow.Author.Tests.{eq-eqb, ne-eqb}
+use Rattle.model.specs.Refusals.{judged}
+use Rattle.model.specs.Notice.{readNotice}
+use Rattle.settings.proofs.Built.{byte-and-word}
+use Rattle.settings.proofs.read_notice.Statement.{statement}
+use Rattle.settings.proofs.read_notice.Tie as tie
+use Rattle.settings.proofs.read_notice.Reads as reads
+use Rattle.settings.proofs.read_notice.Lts as lts
+use Rattle.octets.proofs.empty.Reads as empty-reads
+use Rattle.octets.proofs.push.Reads as push-reads
+use Rattle.octets.proofs.push16.Reads as push16-reads
+use Rattle.octets.proofs.refuse.Reads as refuse-reads
+use Rattle.octets.proofs.tell.Reads as tell-reads
+
+refuse-requires : tie.Need-refuse-requires
+refuse-requires c κs = search needs
+
+returns : tie.Need-returns
+unfolding judged readNotice
+returns c = rw (ne-eqb _ _ (c .before .if1 .taken)) (c .refuse .ensures)
+
+empty-requires : tie.Need-empty-requires
+empty-requires c κs = search needs
+
+push-requires : tie.Need-push-requires
+push-requires c κs = search needs
+
+push16-requires : tie.Need-push16-requires
+push16-requires c κs = search needs
+
+tell-requires : tie.Need-tell-requires
+tell-requires c κs = search needs
+
+returns-2 : tie.Need-returns-2
+unfolding judged readNotice
+returns-2 c =
+    let at = c .before .before .before .before in
+    rw (eq-eqb _ _ (at .if1 .left), c .tell .ensures, c .before .push16 .ensures, c .before .before .push .ensures, c .before .before .before .empty .ensures, byte-and-word (at .before .before .args .n .format) (at .before .before .args .n .mask))
+
+pub read-notice-spec : {M : Type 1} → statement M
+read-notice-spec =
+    tie.close
+    (tie.spec
+    refuse-requires
+    returns
+    empty-requires
+    push-requires
+    push16-requires
+    tell-requires
+    returns-2)

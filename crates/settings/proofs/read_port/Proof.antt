@@ -1,0 +1,51 @@
+-- `settings::read_port` meets its contract. Assumes nothing.
+use borrow.Author.Needs.{needs}
+use borrow.Author.Tests.{eq-eqb, ne-eqb}
+use Rattle.model.specs.Refusals.{judged}
+use Rattle.model.specs.Counters.{readPort}
+use Rattle.settings.proofs.Built.{two-bytes}
+use Rattle.settings.proofs.read_port.Statement.{statement}
+use Rattle.settings.proofs.read_port.Tie as tie
+use Rattle.settings.proofs.read_port.Reads as reads
+use Rattle.settings.proofs.read_port.Lts as lts
+use Rattle.octets.proofs.empty.Reads as empty-reads
+use Rattle.octets.proofs.push.Reads as push-reads
+use Rattle.octets.proofs.refuse.Reads as refuse-reads
+use Rattle.octets.proofs.tell.Reads as tell-reads
+
+refuse-requires : tie.Need-refuse-requires
+refuse-requires c κs = search needs
+
+returns : tie.Need-returns
+unfolding judged readPort
+returns c = rw (ne-eqb _ _ (c .before .if1 .taken)) (c .refuse .ensures)
+
+empty-requires : tie.Need-empty-requires
+empty-requires c κs = search needs
+
+push-requires : tie.Need-push-requires
+push-requires c κs = search needs
+
+push-requires-2 : tie.Need-push-requires-2
+push-requires-2 c κs = search needs
+
+tell-requires : tie.Need-tell-requires
+tell-requires c κs = search needs
+
+returns-2 : tie.Need-returns-2
+unfolding judged readPort
+returns-2 c =
+    let at = c .before .before .before .before in
+    rw (eq-eqb _ _ (at .if1 .left), c .tell .ensures, c .before .push2 .ensures, c .before .before .push .ensures, c .before .before .before .empty .ensures, two-bytes (at .before .before .args .p .address) (at .before .before .args .p .speed))
+
+pub read-port-spec : {M : Type 1} → statement M
+read-port-spec =
+    tie.close
+    (tie.spec
+    refuse-requires
+    returns
+    empty-requires
+    push-requires
+    push-requires-2
+    tell-requires
+    returns-2)

@@ -1,0 +1,18 @@
+-- `settings::reset_inputs` meets its contract. Assumes nothing.
+use borrow.Author.Needs.{needs}
+use Rattle.model.specs.Counters.{resetInputs}
+use Rattle.settings.proofs.reset_inputs.Statement.{statement}
+use Rattle.settings.proofs.reset_inputs.Tie as tie
+use Rattle.settings.proofs.reset_inputs.Reads as reads
+use Rattle.settings.proofs.reset_inputs.Lts as lts
+use Rattle.settings.proofs.reset_lines.Reads as reset-lines-reads
+
+reset-lines-requires : tie.Need-reset-lines-requires
+reset-lines-requires c κs = search needs
+
+returns : tie.Need-returns
+unfolding resetInputs
+returns c = rw (c .before .reset-lines .ensures)
+
+pub reset-inputs-spec : {M : Type 1} → statement M
+reset-inputs-spec = tie.close (tie.spec reset-lines-requires returns)

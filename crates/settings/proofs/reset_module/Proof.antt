@@ -1,0 +1,24 @@
+-- `settings::reset_module` meets its contract. Assumes nothing.
+use borrow.Author.Needs.{needs}
+use borrow.Author.Tests.{eq-eqb, ne-eqb}
+use Rattle.model.specs.Refusals.{judged}
+use Rattle.model.specs.Counters.{resetModule}
+use Rattle.settings.proofs.reset_module.Statement.{statement}
+use Rattle.settings.proofs.reset_module.Tie as tie
+use Rattle.settings.proofs.reset_module.Reads as reads
+use Rattle.settings.proofs.reset_module.Lts as lts
+use Rattle.settings.proofs.reset_state.Reads as reset-state-reads
+
+returns : tie.Need-returns
+unfolding judged resetModule
+returns c = rw (ne-eqb _ _ (c .if1 .taken))
+
+reset-state-requires : tie.Need-reset-state-requires
+reset-state-requires c κs = search needs
+
+returns-2 : tie.Need-returns-2
+unfolding judged resetModule
+returns-2 c = rw (eq-eqb _ _ (c .before .if1 .left), c .reset-state .ensures)
+
+pub reset-module-spec : {M : Type 1} → statement M
+reset-module-spec = tie.close (tie.spec returns reset-state-requires returns-2)
