@@ -1,8 +1,8 @@
 -- The definitions opened for computing on closed calls, and short names for the calls. Assumes nothing.
 use Prim.Native.Nat.{ℕ}
 use mathlib.Core.Bool.{Bool}
-use mathlib.Core.List.{List, [], _∷_, map, flatMap}
 use mathlib.Core.Path.{_≡_}
+use mathlib.Core.List.{List, [], _∷_, map, flatMap}
 use lib.IntN.{ℤ}
 use lib.Ieee.{div, ofInt, ofBits, toBits, isNan}
 use Rattle.lists.specs.Tests.{within, all, any}
@@ -12,7 +12,7 @@ use Rattle.lists.specs.Numbers.{bytes, bitsNumber}
 use Rattle.lists.specs.Chunks.{chunksOf, chunks}
 use Rattle.lists.specs.Entries.{entryOf, entries, numbered}
 use Rattle.model.specs.State.{freshModule}
-use Rattle.model.specs.Samples.{lineSampled, linesSampled, edges, selects, selectedEdge, counted, countersSampled, inputsSampled}
+use Rattle.model.specs.Samples.{lineSampled, linesSampled, selects, selectedEdge, edges, counted, countersSampled, inputsSampled}
 use Rattle.model.specs.Frames.{total, spinelReply, crcBit, crcBits, crcByte, crcOf, withCrc}
 use Rattle.model.specs.Refusals.{shapeWrong, sumWrong, crcWrong, spinelAddressWrong, modbusAddressWrong, spinelBroadcastWrong, modbusBroadcastWrong, spinelFrameRefusal, modbusFrameRefusal, judged, ackOf, exceptionOf}
 use Rattle.model.specs.Counters.{itemsOf, listed, listRead, parameters, readOne, valuesRead, readCounters, deductible, deductOne, deduct, clearAll, deductCounters, modeSettable, setMode, setModes, setModesList, modeShown, setSampling, readSampling, resetInputs, reset, givePermission, setPort, readPort, resetModule}
@@ -30,7 +30,7 @@ use Rattle.model.specs.Call.{Call, call, sample, temperature, spinel, mo
 
 -- naming this on an `unfolding` line opens all that its own line names
 unfoldable pub computing : Unit {0}
-unfolding freshModule lineSampled linesSampled edges selects selectedEdge counted countersSampled inputsSampled total spinelReply crcBit crcBits crcByte crcOf withCrc shapeWrong sumWrong crcWrong spinelAddressWrong modbusAddressWrong spinelBroadcastWrong modbusBroadcastWrong spinelFrameRefusal modbusFrameRefusal judged ackOf exceptionOf itemsOf listed listRead parameters readOne valuesRead readCounters deductible deductOne deduct clearAll deductCounters modeSettable setMode setModes setModesList modeShown setSampling readSampling resetInputs reset givePermission setPort readPort resetModule signedOf patternOf degrees readingOf readingShown readTemperature floatBits readingWords thermostatFits groupThermostat groupFits setGroup setThermostats groupShown readThermostats free freeAt levelled crossed crossing heated failed taken pulsed remaining setByte setOutput startPulse actOn setOutputs pulseOutputs setPulses presetSettable setPreset setPresets startPreset presetReady startPresets pulseShown presetShown modeByte readStates setNotice readNotice noticed noticeFrame noticeWritten readWords packed readBits outputWord thermostatWords readThermostat writePermission portSettable setPortField writePort isZero clearOne writeCounters writeDeductions writeModes writePulse wordsThermostat writeThermostat writeCoils spinelAsked spinelRequest spinelAnswered spinelActed spinelHandled quantityWrong countWrong words bitsFrom registersRead registersWritten coilWritten registerWritten coilsWritten severalWritten modbusAsked modbusAnswered modbusActed modbusHandled sampled sampleCall temperatureCall spinelCall modbusCall step run replies selectedBy sampledAccount amounts modeGiven takenBy takenFrom spinelCollects spinelClears spinelResets spinelMode spinelSampling writes written modbusCollects modbusClears modbusResets modbusMode changed tallied feed tally events within all any mapi allPass bytes bitsNumber chunksOf chunks entryOf entries numbered flatMap div ofInt ofBits toBits isNan
+unfolding within all any mapi allPass bytes bitsNumber chunksOf chunks entryOf entries numbered freshModule lineSampled linesSampled selects selectedEdge edges counted countersSampled inputsSampled total spinelReply crcBit crcBits crcByte crcOf withCrc shapeWrong sumWrong crcWrong spinelAddressWrong modbusAddressWrong spinelBroadcastWrong modbusBroadcastWrong spinelFrameRefusal modbusFrameRefusal judged ackOf exceptionOf itemsOf listed listRead parameters readOne valuesRead readCounters deductible deductOne deduct clearAll deductCounters modeSettable setMode setModes setModesList modeShown setSampling readSampling resetInputs reset givePermission setPort readPort resetModule signedOf patternOf degrees readingOf readingShown readTemperature floatBits readingWords thermostatFits groupThermostat groupFits setGroup setThermostats groupShown readThermostats free freeAt levelled crossed crossing heated failed taken pulsed remaining setByte setOutput startPulse actOn setOutputs pulseOutputs setPulses presetSettable setPreset setPresets startPreset presetReady startPresets pulseShown presetShown modeByte readStates setNotice readNotice noticed noticeFrame noticeWritten readWords packed readBits outputWord thermostatWords readThermostat writePermission portSettable setPortField writePort isZero clearOne writeCounters writeDeductions writeModes writePulse wordsThermostat writeThermostat writeCoils spinelAsked spinelRequest spinelAnswered spinelActed spinelHandled quantityWrong countWrong words bitsFrom registersRead registersWritten coilWritten registerWritten coilsWritten severalWritten modbusAsked modbusAnswered modbusActed modbusHandled sampled sampleCall temperatureCall spinelCall modbusCall step run replies selectedBy sampledAccount amounts modeGiven takenBy takenFrom spinelCollects spinelClears spinelResets spinelMode spinelSampling writes written modbusCollects modbusClears modbusResets modbusMode changed tallied feed tally events flatMap div ofInt ofBits toBits isNan
 computing = tt
 
 -- calls with a buffer of 256 bytes
