@@ -1,0 +1,20 @@
+-- `counters::asks_every` meets its contract. Assumes nothing.
+use borrow.Author.Needs.{needs}
+use borrow.Author.Tests.{eq-eqb, ne-eqb}
+use Rattle.counters.specs.Answers.{asksEvery}
+use Rattle.counters.proofs.asks_every.Statement.{statement}
+use Rattle.counters.proofs.asks_every.Tie as tie
+
+shared-slice-read-result : tie.Need-shared-slice-read-result
+shared-slice-read-result c = search needs
+
+returns : tie.Need-returns
+unfolding asksEvery
+returns c = rw (eq-eqb _ _ (c .before .if1 .taken))
+
+returns-2 : tie.Need-returns-2
+unfolding asksEvery
+returns-2 c = rw (ne-eqb _ _ (c .if1 .left))
+
+pub asks-every-spec : {M : Type 1} → statement M
+asks-every-spec = tie.close (tie.spec shared-slice-read-result returns returns-2)

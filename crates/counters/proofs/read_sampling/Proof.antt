@@ -1,0 +1,37 @@
+-- `counters::read_sampling` meets its contract. Assumes nothing.
+use borrow.Author.Needs.{needs}
+use native.Mathlib.Omega.{arith}
+use mathlib.Core.List.{[]}
+use borrow.Author.Tests.{eq-eqb, ne-eqb}
+use Rattle.lists.proofs.DataLaws.{push-law}
+use Rattle.model.specs.Refusals.{judged}
+use Rattle.model.specs.Counters.{readSampling}
+use Rattle.counters.proofs.read_sampling.Statement.{statement}
+use Rattle.counters.proofs.read_sampling.Tie as tie
+
+refuse-requires : tie.Need-refuse-requires
+refuse-requires c κs = search needs
+
+returns : tie.Need-returns
+unfolding readSampling judged
+returns c = rw (c .refuse .ensures, ne-eqb _ _ (c .before .if1 .taken))
+
+empty-requires : tie.Need-empty-requires
+empty-requires c κs = search needs
+
+push-requires : tie.Need-push-requires
+push-requires c κs = search needs
+
+tell-requires : tie.Need-tell-requires
+tell-requires c κs = search needs
+
+returns-2 : tie.Need-returns-2
+unfolding readSampling judged
+returns-2 c =
+    let at = c .before .before in
+    rw (c .tell .ensures, c .before .push .ensures, at .empty .ensures, eq-eqb _ _ (at .before .if1 .left), push-law [] _ (omega arith))
+
+pub read-sampling-spec : {M : Type 1} → statement M
+read-sampling-spec =
+    tie.close
+    (tie.spec refuse-requires returns empty-requires push-requires tell-requires returns-2)

@@ -1,0 +1,62 @@
+-- `items::all_numbers` meets its contract. The loop's invariant: what is left decides as the whole does. Assumes nothing.
+use borrow.Author.Needs.{needs}
+use native.Mathlib.Omega.{arith}
+use Prim.Native.Nat.{_≤_, _-_}
+use mathlib.Core.Path.{_≡_, refl, sym, _∙_}
+use lib.ListN.{length, drop, drop-of-length-le}
+use borrow.Author.Tests.{not-true, not-false}
+use Rattle.lists.specs.Tests.{all}
+use Rattle.lists.proofs.Choices.{all-goes, all-stops, all-ends}
+use Rattle.model.specs.Counters.{isNumber}
+use Rattle.items.proofs.Lists.{rest-first}
+use Rattle.items.proofs.all_numbers.Statement.{statement}
+use Rattle.items.proofs.all_numbers.Tie as tie
+
+abbrev Inv-loop : tie.InvT-loop
+Inv-loop d i₀ i = (i ≤ length d) × (all isNumber (drop i d) ≡ all isNumber d)
+
+abbrev μ-loop : tie.MeasureT-loop
+μ-loop d i₀ i = length d - i
+
+loop-holds : tie.Need-loop-holds Inv-loop μ-loop
+loop-holds c = (omega arith, refl)
+
+shared-slice-read-is-number : tie.Need-shared-slice-read-is-number Inv-loop μ-loop
+shared-slice-read-is-number c = search needs
+
+is-number-requires : tie.Need-is-number-requires Inv-loop μ-loop
+is-number-requires c κs = tt
+
+returns : tie.Need-returns Inv-loop μ-loop
+returns c =
+    let at = c .before .before .before in
+    all-stops isNumber _ _ _ (rest-first _ _ (at .loop-test .taken)) (sym (c .before .is-number .ensures) ∙ not-true _ (c .if1 .taken)) ∙ at .before .loop .inv .1
+
+add-i : tie.Need-add-i Inv-loop μ-loop
+add-i c = search needs
+
+loop-less : tie.Need-loop-less Inv-loop μ-loop
+loop-less c = search needs
+
+loop-again : tie.Need-loop-again Inv-loop μ-loop
+loop-again c =
+    let at = c .before .before .before in
+    (omega arith, all-goes isNumber _ _ _ (rest-first _ _ (at .loop-test .taken)) (sym (c .before .is-number .ensures) ∙ not-false _ (c .if1 .left)) ∙ at .before .loop .inv .1)
+
+returns-2 : tie.Need-returns-2 Inv-loop μ-loop
+returns-2 c = all-ends isNumber _ (drop-of-length-le _ {i = c .before .loop .i} (c .loop-test .left)) ∙ c .before .loop .inv .1
+
+pub all-numbers-spec : {M : Type 1} → statement M
+all-numbers-spec =
+    tie.close
+    (tie.spec
+    Inv-loop
+    μ-loop
+    loop-holds
+    shared-slice-read-is-number
+    is-number-requires
+    returns
+    add-i
+    loop-less
+    loop-again
+    returns-2)

@@ -1,0 +1,20 @@
+-- `items::is_all` meets its contract. Assumes nothing.
+use borrow.Author.Needs.{needs}
+use borrow.Author.Tests.{eq-eqb, ne-eqb}
+use Rattle.items.specs.Items.{asksAll}
+use Rattle.items.proofs.is_all.Statement.{statement}
+use Rattle.items.proofs.is_all.Tie as tie
+
+shared-slice-read-result : tie.Need-shared-slice-read-result
+shared-slice-read-result c = search needs
+
+returns : tie.Need-returns
+unfolding asksAll
+returns c = rw (eq-eqb _ _ (c .before .if1 .taken))
+
+returns-2 : tie.Need-returns-2
+unfolding asksAll
+returns-2 c = rw (ne-eqb _ _ (c .if1 .left))
+
+pub is-all-spec : {M : Type 1} → statement M
+is-all-spec = tie.close (tie.spec shared-slice-read-result returns returns-2)

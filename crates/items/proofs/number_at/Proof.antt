@@ -1,0 +1,23 @@
+-- `items::number_at` meets its contract. Assumes nothing.
+use borrow.Author.Needs.{needs}
+use mathlib.Core.Path.{sym}
+use lib.ListN.{List·getD-eq-default}
+use Rattle.model.specs.Counters.{everyNumber}
+use Rattle.items.proofs.Lists.{number-place}
+use Rattle.items.proofs.number_at.Statement.{statement}
+use Rattle.items.proofs.number_at.Tie as tie
+
+cast-result : tie.Need-cast-result
+cast-result c = search needs
+
+add-result : tie.Need-add-result
+add-result c = search needs
+
+returns : tie.Need-returns
+returns c = sym (number-place _ (c .if1 .taken))
+
+returns-2 : tie.Need-returns-2
+returns-2 c = sym (List·getD-eq-default everyNumber 0 (c .if1 .left))
+
+pub number-at-spec : {M : Type 1} → statement M
+number-at-spec = tie.close (tie.spec cast-result add-result returns returns-2)
