@@ -18,7 +18,7 @@ use Rattle.iomodule.proofs.step.Reads as step-reads
 
 returns : tie.Need-returns
 unfolding sampleCall
-returns c = rw (lt-ltb _ _ (c .if1 .taken)) (record { answer = refl; buffer = refl })
+returns c = rw (lt-ltb (length (now (c .before .before .args .reply))) 256 (omega arith)) (record { answer = refl; buffer = refl })
 
 step-requires : tie.Need-step-requires
 step-requires c κs = search needs
