@@ -1,0 +1,4 @@
+pub mod Lists
+pub mod SetBytes
+pub mod ListReads
+pub mod States

@@ -1,0 +1,43 @@
+-- `relays::set_each` meets its contract. The loop's invariant: the items left, on the copy as it stands, come to all of them. Assumes nothing.
+use Prim.Native.Nat.{_≤_, _-_, _<_}
+use native.Mathlib.Omega.{arith}
+use mathlib.Core.Path.{_≡_, refl, _∙_}
+use mathlib.Core.List.{foldl}
+use mathlib.Core.List.{map}
+use lib.ListN.{length, drop, getD}
+use Rattle.lists.proofs.Walks.{fold-turn}
+use Rattle.model.specs.Outputs.{setByte, setOutput}
+use Rattle.relays.proofs.SetBytes.{set-byte}
+use Rattle.relays.proofs.Lists.{mapped-cons, mapped-none}
+use Rattle.relays.proofs.set_each.Statement.{statement}
+use Rattle.relays.proofs.set_each.Tie as tie
+
+abbrev Inv-loop : tie.InvT-loop
+Inv-loop d c₀ i₀ c i = (i ≤ length d) × (foldl setOutput c (map setByte (drop i d)) ≡ foldl setOutput c₀ (map setByte d))
+
+abbrev μ-loop : tie.MeasureT-loop
+μ-loop d c₀ i₀ c i = length d - i
+
+loop-again : tie.Need-loop-again Inv-loop μ-loop
+loop-again c =
+    let l = c .before .before in
+    let i = l .before .loop .i in
+    let b : getD (l .before .before .before .args .d .now) i 0 < 256 = omega (arith, c .before .shared-slice-known2 .given i) in
+    (omega arith, rw (c .set-at .ensures, set-byte _ b) (fold-turn setOutput _ _ _ _ (mapped-cons setByte _ _ (l .loop-test .taken)) ∙ l .before .loop .inv .1))
+
+returns : tie.Need-returns Inv-loop μ-loop
+returns c = rw (mapped-none setByte _ _ (c .loop-test .left)) at (c .before .loop .inv .1)
+
+pub set-each-spec : {M : Type 1} → statement M
+set-each-spec =
+    tie.close
+    (tie.spec
+    Inv-loop
+    μ-loop
+    (λ c. (omega arith, refl))
+    (λ c. omega arith)
+    (λ c κs. tt)
+    (λ c. omega arith)
+    (λ c. omega arith)
+    loop-again
+    returns)

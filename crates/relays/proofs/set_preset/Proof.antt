@@ -1,0 +1,35 @@
+-- `relays::set_preset` meets its contract: past the end `set` changes nothing. Assumes nothing.
+use native.Mathlib.Omega.{arith}
+use mathlib.Core.Path.{_≡_, sym}
+use borrow.Author.Needs.{needs}
+use lib.ListN.{length}
+use lib.Seq.{set-out}
+use Rattle.model.specs.Outputs.{setPreset}
+use Rattle.relays.proofs.set_preset.Statement.{statement}
+use Rattle.relays.proofs.set_preset.Tie as tie
+
+long : (c : tie.Start) → length (c .args .ps) ≡ 16
+long c = search needs
+
+index-of-requires : tie.Need-index-of-requires
+index-of-requires c κs = search needs
+
+mul-next : tie.Need-mul-next
+mul-next c = search needs
+
+array-set-from-next : tie.Need-array-set-from-next
+array-set-from-next c = search needs
+
+returns : tie.Need-returns
+unfolding setPreset
+returns c = rw (c .before .index-of .ensures)
+
+returns-2 : tie.Need-returns-2
+unfolding setPreset
+returns-2 c =
+    let s = c .before .before in
+    sym (set-out (s .args .ps) _ _ (rw (long s) (omega (arith, c .before .index-of .ensures))))
+
+pub set-preset-spec : {M : Type 1} → statement M
+set-preset-spec =
+    tie.close (tie.spec index-of-requires mul-next array-set-from-next returns returns-2)

@@ -1,0 +1,46 @@
+-- `relays::set_pulses` meets its contract: without a time there are no set bytes, and after it stand all the rest. Assumes nothing.
+use borrow.Author.Needs.{needs}
+use Rattle.model.specs.Refusals.{judged}
+use Rattle.model.specs.Outputs.{setPulses, pulseOutputs, actOn}
+use Rattle.relays.proofs.SetBytes.{no-set-bytes, rest-whole}
+use Rattle.relays.proofs.set_pulses.Statement.{statement}
+use Rattle.relays.proofs.set_pulses.Tie as tie
+
+answer-requires : tie.Need-answer-requires
+answer-requires c κs = search needs
+
+returns : tie.Need-returns
+unfolding judged setPulses pulseOutputs actOn
+returns c = rw (c .answer .ensures, no-set-bytes (c .before .before .before .args .d .now) (c .before .if1 .taken))
+
+shared-slice-read-t8 : tie.Need-shared-slice-read-t8
+shared-slice-read-t8 c = search needs
+
+sub-pulse-listed : tie.Need-sub-pulse-listed
+sub-pulse-listed c = search needs
+
+part-pulse-listed-start : tie.Need-part-pulse-listed-start
+part-pulse-listed-start c = search needs
+
+part-pulse-listed-end : tie.Need-part-pulse-listed-end
+part-pulse-listed-end c = search needs
+
+pulse-listed-requires : tie.Need-pulse-listed-requires
+pulse-listed-requires c κs = search needs
+
+returns-2 : tie.Need-returns-2
+unfolding setPulses
+returns-2 c = rw (c .pulse-listed .ensures, rest-whole (c .before .before .before .before .before .args .d .now))
+
+pub set-pulses-spec : {M : Type 1} → statement M
+set-pulses-spec =
+    tie.close
+    (tie.spec
+    answer-requires
+    returns
+    shared-slice-read-t8
+    sub-pulse-listed
+    part-pulse-listed-start
+    part-pulse-listed-end
+    pulse-listed-requires
+    returns-2)

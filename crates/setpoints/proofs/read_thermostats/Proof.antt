@@ -1,0 +1,65 @@
+-- `setpoints::read_thermostats` meets its contract. Assumes nothing.
+use borrow.Author.Needs.{needs}
+use native.Mathlib.Omega.{arith}
+use mathlib.Core.Path.{sym, _∙_}
+use mathlib.Core.Bool.{true, false}
+use denote.Ref.{now}
+use lib.ListN.{length}
+use borrow.Author.Tests.{not-true, not-false, le-leb, lt-leb}
+use Rattle.model.specs.Refusals.{judged}
+use Rattle.model.specs.Temperature.{readThermostats}
+use Rattle.setpoints.specs.Parts.{outputsNamed}
+use Rattle.setpoints.proofs.Shown.{groups-fit, named-numbers}
+use Rattle.setpoints.proofs.read_thermostats.Statement.{statement}
+use Rattle.setpoints.proofs.read_thermostats.Tie as tie
+
+refuse-requires : tie.Need-refuse-requires
+refuse-requires c κs = search needs
+
+returns : tie.Need-returns
+unfolding readThermostats judged
+returns c = rw (c .refuse .ensures, lt-leb (length (now (c .before .before .before .args .d))) 12 (c .before .if1 .taken))
+
+all-numbers-requires : tie.Need-all-numbers-requires
+all-numbers-requires c κs = search needs
+
+refuse-requires-2 : tie.Need-refuse-requires-2
+refuse-requires-2 c κs = search needs
+
+returns-2 : tie.Need-returns-2
+unfolding readThermostats outputsNamed judged
+returns-2 c =
+    let t = c .before in
+    let e = t .before .before in
+    let d = now (e .before .before .args .d) in
+    let bad = sym (t .before .all-numbers .ensures) ∙ not-true _ (t .if2 .taken) in
+    rw (c .refuse2 .ensures, le-leb (length d) 12 (omega arith), named-numbers d false bad)
+
+show-groups-requires : tie.Need-show-groups-requires
+show-groups-requires c κs = search needs
+
+tell-requires : tie.Need-tell-requires
+tell-requires c κs = search needs
+
+returns-3 : tie.Need-returns-3
+unfolding readThermostats outputsNamed judged
+returns-3 c =
+    let t = c .before .before in
+    let e = t .before .before in
+    let a = e .before .before .args in
+    let d = now (a .d) in
+    let good = sym (t .before .all-numbers .ensures) ∙ not-false _ (t .if2 .left) in
+    rw (c .tell .ensures, c .before .show-groups .ensures, groups-fit (a .hs) d (omega arith), le-leb (length d) 12 (omega arith), named-numbers d true good)
+
+pub read-thermostats-spec : {M : Type 1} → statement M
+read-thermostats-spec =
+    tie.close
+    (tie.spec
+    refuse-requires
+    returns
+    all-numbers-requires
+    refuse-requires-2
+    returns-2
+    show-groups-requires
+    tell-requires
+    returns-3)
