@@ -1,4 +1,2 @@
 pub mod Lists
 pub mod SetBytes
-pub mod ListReads
-pub mod States

@@ -1,31 +1,22 @@
--- One turn of a loop over a list. Assumes nothing.
+-- One turn of a loop over a list's items, and its end. Assumes nothing.
 use Prim.Native.Nat.{ℕ, _+_, _<_, _≤_}
 use native.Mathlib.Omega.{arith}
-use native.Mathlib.Numerals.{add-one}
 use mathlib.Core.Path.{_≡_, ap, _∙_}
 use mathlib.Core.List.{List, [], _∷_, map}
 use lib.ListN.{length, getD, drop, drop-of-length-le}
-use lib.Seq.{drop-cons}
 use Rattle.lists.specs.Chunks.{chunks}
 use Rattle.lists.proofs.ChunkLaws.{chunks-cons, chunks-none, piece}
+use Rattle.items.proofs.Lists.{rest-first}
 
--- what is left from place i on: its first and the rest, or nothing
-module _ {A : Type 0} (l : List A) (i : ℕ) where
-  pub left-cons : (d : A) → i < length l → drop i l ≡ getD l i d ∷ drop (i + 1) l
-  left-cons d h = rw (drop-cons l i d h, add-one)
-
-  pub left-none : length l ≤ i → drop i l ≡ []
-  left-none h = drop-of-length-le l {i = i} h
-
--- the same of the items that single bytes stand for
+-- items that single bytes stand for
 module _ {A : Type 0} (f : ℕ → A) (l : List ℕ) (i : ℕ) where
   pub mapped-cons : i < length l → map f (drop i l) ≡ f (getD l i 0) ∷ map f (drop (i + 1) l)
-  mapped-cons h = ap (map f) (left-cons l i 0 h)
+  mapped-cons h = ap (map f) (rest-first l i h)
 
   pub mapped-none : length l ≤ i → map f (drop i l) ≡ []
-  mapped-none h = ap (map f) (left-none l i h)
+  mapped-none h = ap (map f) (drop-of-length-le l {i = i} h)
 
--- and of triples
+-- triples
 module _ (l : List ℕ) (i : ℕ) where
   pub triples-cons : i + 3 ≤ length l → chunks 3 (drop i l) ≡ (getD l i 0 ∷ getD l (i + 1) 0 ∷ getD l (i + 2) 0 ∷ []) ∷ chunks 3 (drop (i + 3) l)
   triples-cons h =

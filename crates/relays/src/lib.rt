@@ -1,34 +1,25 @@
-// The output instructions: 20H 23H 25H switch, 26H sets presets, 30H 31H 33H 36H 38H read.
+// The output instructions that set: 20H 23H 25H switch outputs, 26H sets presets.
 ghost use mathlib.Core.Path.{_≡_};
 ghost use mathlib.Core.Bool.{cond, not};
 ghost use mathlib.Core.List.{[], _∷_, map, foldl};
-ghost use Prim.Native.Nat.{_+_, _-_, _<_};
+ghost use Prim.Native.Nat.{_-_};
 ghost use lib.ListN.{getD, set};
 ghost use Rattle.lists.specs.Tests.{all};
 ghost use Rattle.lists.specs.Entries.{entry};
 ghost use Rattle.lists.specs.Chunks.{chunks};
-ghost use Rattle.lists.specs.Data.{extended};
-ghost use Rattle.lists.specs.Numbers.{bitsNumber};
-ghost use Rattle.model.specs.State.{output, freshOutput, freshThermostat};
+ghost use Rattle.model.specs.State.{output, freshThermostat};
 ghost use Rattle.model.specs.Refusals.{judged, refuse8};
-ghost use Rattle.model.specs.Counters.{itemsOf, listRead};
+ghost use Rattle.model.specs.Counters.{itemsOf};
 ghost use Rattle.model.specs.Temperature.{freeAt};
 ghost use Rattle.model.specs.Outputs.{setByte, numberFits, setOutput, startPulse, setOutputs, pulseOutputs, setPulses};
 ghost use Rattle.model.specs.Outputs.{presetSettable, setPreset, setPresets, presetOf, startPreset, presetReady, startPresets};
-ghost use Rattle.model.specs.Outputs.{pulseShown, presetShown, modeByte, outputStates};
-ghost use Rattle.octets.specs.Answers.{toldOf};
-ghost use Rattle.relays.specs.Listing.{shownOf};
-ghost use Rattle.relays.specs.Parts.{switchedOf, presetsSetOf, statesTold};
-use lists::Data;
+ghost use Rattle.relays.specs.Parts.{switchedOf, presetsSetOf};
 use model::HalfSeconds;
 use model::Output;
 use model::Preset;
 use model::Reading;
 use model::Seconds;
 use model::Thermostat;
-use octets::Told;
-
-mod listing;
 
 // The answer to an instruction that switches outputs: the refusal's number or 0, and the outputs after it.
 pub struct Switched {
@@ -42,22 +33,10 @@ pub struct PresetsSet {
     pub presets: [Preset; 16],
 }
 
-// One output by its number ---------------------------------------------------------------
+// By number ------------------------------------------------------------------------------
 
-// The output of a number, a fresh one where there is none.
-fn output_at(os: [Output; 16], n: u8) -> Output
-    ensures { λ r. ⌜ r ≡ getD os (n - 1) freshOutput ⌝ }
-{
-    let k = octets::index_of(n);
-    if k < 16 {
-        let o = os[k];
-        return o;
-    }
-    Output { on: false, left: 0 }
-}
-
-// The preset of a number.
-fn preset_at(ps: [Preset; 16], n: u8) -> Preset
+// The preset of a number, a fresh one where there is none.
+pub fn preset_at(ps: [Preset; 16], n: u8) -> Preset
     ensures { λ r. ⌜ r ≡ presetOf ps n ⌝ }
 {
     let k = octets::index_of(n);
@@ -71,8 +50,8 @@ fn preset_at(ps: [Preset; 16], n: u8) -> Preset
     }
 }
 
-// The thermostat of a number.
-fn thermostat_at(hs: [Thermostat; 16], n: u8) -> Thermostat
+// The thermostat of a number, a fresh one where there is none.
+pub fn thermostat_at(hs: [Thermostat; 16], n: u8) -> Thermostat
     ensures { λ r. ⌜ r ≡ getD hs (n - 1) freshThermostat ⌝ }
 {
     let k = octets::index_of(n);
@@ -135,7 +114,7 @@ fn sets_fit(d: &[u8]) -> bool
 {
     let mut i = 0;
     while i < d.len() {
-        if listing::is_number(d[i] % 128) {
+        if items::is_number(d[i] % 128) {
             i += 1;
         } else {
             return false;
@@ -203,7 +182,7 @@ fn answer(refusal: u8, os: [Output; 16]) -> Switched
 pub fn set_outputs(r: Reading, hs: [Thermostat; 16], d: &[u8], os: [Output; 16]) -> Switched
     ensures { λ q. ⌜ q ≡ switchedOf (judged os (setOutputs r hs (now (d .entry)) os)) ⌝ }
 {
-    if !listing::items_of(1, d) {
+    if !items::items_of(1, d.len()) {
         return answer(8, os);
     }
     let fit = sets_fit(d);
@@ -227,7 +206,7 @@ fn pulse_listed(
 ) -> Switched
     ensures { λ q. ⌜ q ≡ switchedOf (judged os (refuse8 (not (itemsOf 1 (now (d .entry)))) (pulseOutputs time r hs (map setByte (now (d .entry))) os))) ⌝ }
 {
-    if !listing::items_of(1, d) {
+    if !items::items_of(1, d.len()) {
         return answer(8, os);
     }
     if !sets_fit(d) {
@@ -259,7 +238,7 @@ fn is_ready(ps: [Preset; 16], n: u8) -> bool
     ensures { λ r. ⌜ r ≡ presetReady ps n ⌝ }
 {
     let p = preset_at(ps, n);
-    listing::is_number(n) & (p.kind != 0)
+    items::is_number(n) & (p.kind != 0)
 }
 
 // Whether every preset of the list can be started.
@@ -298,8 +277,7 @@ fn start_preset(ps: [Preset; 16], os: [Output; 16], n: u8) -> [Output; 16]
 {
     let p = preset_at(ps, n);
     let time = p.time;
-    let samples = outputs::half_second_samples(time);
-    switch_at(os, n, p.kind == 2, samples)
+    pulse_at(time, os, n, p.kind == 2)
 }
 
 // The outputs after every preset of the list.
@@ -326,7 +304,7 @@ pub fn start_presets(
 ) -> Switched
     ensures { λ q. ⌜ q ≡ switchedOf (judged os (startPresets ps r hs (now (d .entry)) os)) ⌝ }
 {
-    if !listing::items_of(1, d) {
+    if !items::items_of(1, d.len()) {
         return answer(8, os);
     }
     if !all_ready(ps, d) {
@@ -342,7 +320,7 @@ pub fn start_presets(
 fn is_settable(n: u8, kind: u8, time: u8) -> bool
     ensures { λ r. ⌜ r ≡ presetSettable (n ∷ kind ∷ time ∷ []) ⌝ }
 {
-    listing::is_number(n) & ((kind == 0) | (((kind == 2) | (kind == 3)) & (1 <= time)))
+    items::is_number(n) & ((kind == 0) | (((kind == 2) | (kind == 3)) & (1 <= time)))
 }
 
 // Whether every triple can be set.
@@ -393,7 +371,7 @@ fn set_each_preset(ps: [Preset; 16], d: &[u8]) -> [Preset; 16]
 pub fn set_presets(d: &[u8], ps: [Preset; 16]) -> PresetsSet
     ensures { λ r. ⌜ r ≡ presetsSetOf (judged ps (setPresets (now (d .entry)) ps)) ⌝ }
 {
-    if !listing::items_of(3, d) {
+    if !items::items_of(3, d.len()) {
         return PresetsSet {
             refusal: 8,
             presets: ps,
@@ -410,156 +388,4 @@ pub fn set_presets(d: &[u8], ps: [Preset; 16]) -> PresetsSet
         refusal: 0,
         presets: next,
     }
-}
-
-// 33H, 36H, 38H: list reads --------------------------------------------------------------
-
-// A set byte: bit 7 and the number.
-fn set_byte(on: bool, n: u8) -> u8
-    requires { ⌜ cond on 128 0 + n < 256 ⌝ }
-    ensures { λ r. ⌜ r ≡ cond on 128 0 + n ⌝ }
-{
-    if on { 128 + n } else { n }
-}
-
-// Set byte and remaining time of output n.
-fn show_pulse(os: [Output; 16], n: u8, out: Data) -> Data
-    ensures { λ r. ⌜ r ≡ extended out (pulseShown os n) ⌝ }
-{
-    let o = output_at(os, n);
-    let first = octets::push(out, set_byte(o.on, n));
-    octets::push(first, outputs::remaining_time(o.left))
-}
-
-// The same of every number of a list, as far as 256 bytes hold it.
-fn show_pulses(os: [Output; 16], ns: &[u8]) -> Data
-    ensures { λ r. ⌜ r ≡ shownOf (pulseShown os) (now (ns .entry)) ⌝ }
-{
-    let mut out = octets::empty();
-    let mut i = 0;
-    while i < ns.len() {
-        out = show_pulse(os, ns[i], out);
-        i += 1;
-    }
-    out
-}
-
-// 33H: set byte and remaining time of each.
-pub fn read_pulses(os: [Output; 16], d: &[u8]) -> Told
-    ensures { λ r. ⌜ r ≡ toldOf {P = Unit {0}} (judged tt (listRead (pulseShown os) (now (d .entry)) tt)) ⌝ }
-{
-    let refusal = listing::list_refusal(d);
-    if refusal != 0 {
-        return octets::refuse(refusal);
-    }
-    if listing::names_all(d) {
-        let every = listing::every_number();
-        return octets::tell(show_pulses(os, &every));
-    }
-    octets::tell(show_pulses(os, d))
-}
-
-// Type and time of preset n.
-fn show_preset(ps: [Preset; 16], n: u8, out: Data) -> Data
-    ensures { λ r. ⌜ r ≡ extended out (presetShown ps n) ⌝ }
-{
-    let p = preset_at(ps, n);
-    let time = p.time;
-    octets::push(octets::push(out, p.kind), time.0)
-}
-
-// The same of every number of a list.
-fn show_presets(ps: [Preset; 16], ns: &[u8]) -> Data
-    ensures { λ r. ⌜ r ≡ shownOf (presetShown ps) (now (ns .entry)) ⌝ }
-{
-    let mut out = octets::empty();
-    let mut i = 0;
-    while i < ns.len() {
-        out = show_preset(ps, ns[i], out);
-        i += 1;
-    }
-    out
-}
-
-// 36H: type and time of each.
-pub fn read_presets(ps: [Preset; 16], d: &[u8]) -> Told
-    ensures { λ r. ⌜ r ≡ toldOf {P = Unit {0}} (judged tt (listRead (presetShown ps) (now (d .entry)) tt)) ⌝ }
-{
-    let refusal = listing::list_refusal(d);
-    if refusal != 0 {
-        return octets::refuse(refusal);
-    }
-    if listing::names_all(d) {
-        let every = listing::every_number();
-        return octets::tell(show_presets(ps, &every));
-    }
-    octets::tell(show_presets(ps, d))
-}
-
-// Mode byte of output n: A0H and SSK of an active thermostat, else the preset's type.
-fn show_mode(hs: [Thermostat; 16], ps: [Preset; 16], n: u8, out: Data) -> Data
-    ensures { λ r. ⌜ r ≡ extended out (modeByte hs ps n) ⌝ }
-{
-    let h = thermostat_at(hs, n);
-    let flags = h.flags;
-    if 128 <= flags {
-        return octets::push(out, 0xA0 + flags / 16 % 8);
-    }
-    let p = preset_at(ps, n);
-    octets::push(out, p.kind)
-}
-
-// The same of every number of a list.
-fn show_modes(hs: [Thermostat; 16], ps: [Preset; 16], ns: &[u8]) -> Data
-    ensures { λ r. ⌜ r ≡ shownOf (modeByte hs ps) (now (ns .entry)) ⌝ }
-{
-    let mut out = octets::empty();
-    let mut i = 0;
-    while i < ns.len() {
-        out = show_mode(hs, ps, ns[i], out);
-        i += 1;
-    }
-    out
-}
-
-// 38H: a mode byte of each.
-pub fn read_modes(hs: [Thermostat; 16], ps: [Preset; 16], d: &[u8]) -> Told
-    ensures { λ r. ⌜ r ≡ toldOf {P = Unit {0}} (judged tt (listRead (modeByte hs ps) (now (d .entry)) tt)) ⌝ }
-{
-    let refusal = listing::list_refusal(d);
-    if refusal != 0 {
-        return octets::refuse(refusal);
-    }
-    if listing::names_all(d) {
-        let every = listing::every_number();
-        return octets::tell(show_modes(hs, ps, &every));
-    }
-    octets::tell(show_modes(hs, ps, d))
-}
-
-// 30H, 31H: states -----------------------------------------------------------------------
-
-// The outputs' states as a number, output 1 lowest.
-pub fn output_bits(os: [Output; 16]) -> u16
-    ensures { λ r. ⌜ r ≡ bitsNumber (outputStates os) ⌝ }
-{
-    let mut bits: u16 = 0;
-    let mut i = 16usize;
-    while 0 < i {
-        i = i - 1;
-        let o = os[i];
-        let s = o.on as u16;
-        bits = s + 2 * bits;
-    }
-    bits
-}
-
-// 30H of the inputs' states, 31H of the outputs': two bytes. No data is named.
-pub fn read_states(d: &[u8], bits: u16) -> Told
-    ensures { λ r. ⌜ r ≡ statesTold (now (d .entry)) bits ⌝ }
-{
-    if d.len() != 0 {
-        return octets::refuse(8);
-    }
-    octets::tell(octets::push16(octets::empty(), bits))
 }

@@ -5,6 +5,7 @@ use borrow.Author.Tests.{not-true, not-false}
 use Rattle.lists.proofs.Choices.{is-within, not-within}
 use Rattle.model.specs.Refusals.{judged}
 use Rattle.model.specs.Outputs.{pulseOutputs, actOn}
+use Rattle.items.proofs.Lists.{items-length}
 use Rattle.relays.proofs.pulse_listed.Statement.{statement}
 use Rattle.relays.proofs.pulse_listed.Tie as tie
 
@@ -12,7 +13,7 @@ returns : tie.Need-returns
 unfolding judged pulseOutputs actOn
 returns c =
     let i = c .before in
-    rw (c .answer .ensures, sym (i .before .items-of .ensures) ∙ not-true _ (i .if1 .taken))
+    rw (c .answer .ensures, items-length 1 _, sym (i .before .items-of .ensures) ∙ not-true _ (i .if1 .taken))
 
 returns-2 : tie.Need-returns-2
 unfolding judged pulseOutputs actOn
@@ -21,7 +22,7 @@ returns-2 c =
     let i = f .before .before in
     let few = sym (i .before .items-of .ensures) ∙ not-false _ (i .if1 .left) in
     let fit = sym (f .before .sets-fit .ensures) ∙ not-true _ (f .if2 .taken) in
-    rw (c .answer2 .ensures, few, fit)
+    rw (c .answer2 .ensures, items-length 1 _, few, fit)
 
 returns-3 : tie.Need-returns-3
 unfolding judged pulseOutputs actOn
@@ -32,7 +33,7 @@ returns-3 c =
     let few = sym (i .before .items-of .ensures) ∙ not-false _ (i .if1 .left) in
     let fit = sym (f .before .sets-fit .ensures) ∙ not-false _ (f .if2 .left) in
     let time = not-within 1 255 (i .before .before .before .args .time .0) (λ l h. omega arith) in
-    rw (c .answer3 .ensures, few, fit, time)
+    rw (c .answer3 .ensures, items-length 1 _, few, fit, time)
 
 returns-4 : tie.Need-returns-4
 unfolding judged pulseOutputs actOn
@@ -45,7 +46,7 @@ returns-4 c =
     let fit = sym (f .before .sets-fit .ensures) ∙ not-false _ (f .if2 .left) in
     let free = sym (h .before .sets-free .ensures) ∙ not-true _ (h .if4 .taken) in
     let time = is-within 1 255 (i .before .before .before .args .time .0) (t .if3 .left) (omega arith) in
-    rw (c .answer4 .ensures, few, fit, time, free)
+    rw (c .answer4 .ensures, items-length 1 _, few, fit, time, free)
 
 returns-5 : tie.Need-returns-5
 unfolding judged pulseOutputs actOn
@@ -58,13 +59,13 @@ returns-5 c =
     let fit = sym (f .before .sets-fit .ensures) ∙ not-false _ (f .if2 .left) in
     let free = sym (h .before .sets-free .ensures) ∙ not-false _ (h .if4 .left) in
     let time = is-within 1 255 (i .before .before .before .args .time .0) (t .if3 .left) (omega arith) in
-    rw (c .answer5 .ensures, c .before .pulse-each .ensures, few, fit, time, free)
+    rw (c .answer5 .ensures, c .before .pulse-each .ensures, items-length 1 _, few, fit, time, free)
 
 pub pulse-listed-spec : {M : Type 1} → statement M
 pulse-listed-spec =
     tie.close
     (tie.spec
-    (λ c κs. omega arith)
+    (λ c κs. tt)
     (λ c κs. tt)
     returns
     (λ c κs. tt)

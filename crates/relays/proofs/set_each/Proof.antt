@@ -2,8 +2,7 @@
 use Prim.Native.Nat.{_≤_, _-_, _<_}
 use native.Mathlib.Omega.{arith}
 use mathlib.Core.Path.{_≡_, refl, _∙_}
-use mathlib.Core.List.{foldl}
-use mathlib.Core.List.{map}
+use mathlib.Core.List.{map, foldl}
 use lib.ListN.{length, drop, getD}
 use Rattle.lists.proofs.Walks.{fold-turn}
 use Rattle.model.specs.Outputs.{setByte, setOutput}

@@ -3,10 +3,10 @@ use Prim.Native.Nat.{_≤_, _-_}
 use native.Mathlib.Omega.{arith}
 use mathlib.Core.Path.{_≡_, refl, _∙_}
 use mathlib.Core.List.{foldl}
-use lib.ListN.{length, drop}
+use lib.ListN.{length, drop, drop-of-length-le}
 use Rattle.lists.proofs.Walks.{fold-turn}
 use Rattle.model.specs.Outputs.{startPreset}
-use Rattle.relays.proofs.Lists.{left-cons, left-none}
+use Rattle.items.proofs.Lists.{rest-first}
 use Rattle.relays.proofs.start_each.Statement.{statement}
 use Rattle.relays.proofs.start_each.Tie as tie
 
@@ -19,10 +19,10 @@ abbrev μ-loop : tie.MeasureT-loop
 loop-again : tie.Need-loop-again Inv-loop μ-loop
 loop-again c =
     let l = c .before .before in
-    (omega arith, rw (c .start-preset .ensures) (fold-turn (startPreset _) _ _ _ _ (left-cons _ _ 0 (l .loop-test .taken)) ∙ l .before .loop .inv .1))
+    (omega arith, rw (c .start-preset .ensures) (fold-turn (startPreset _) _ _ _ _ (rest-first _ _ (l .loop-test .taken)) ∙ l .before .loop .inv .1))
 
 returns : tie.Need-returns Inv-loop μ-loop
-returns c = rw (left-none _ _ (c .loop-test .left)) at (c .before .loop .inv .1)
+returns c = rw (drop-of-length-le _ {i = c .before .loop .i} (c .loop-test .left)) at (c .before .loop .inv .1)
 
 pub start-each-spec : {M : Type 1} → statement M
 start-each-spec =

@@ -1,9 +1,9 @@
 -- `relays::start_presets` meets its contract: the tests in checking order. Assumes nothing.
-use native.Mathlib.Omega.{arith}
 use mathlib.Core.Path.{sym, _∙_}
 use borrow.Author.Tests.{not-true, not-false}
 use Rattle.model.specs.Refusals.{judged}
 use Rattle.model.specs.Outputs.{startPresets}
+use Rattle.items.proofs.Lists.{items-length}
 use Rattle.relays.proofs.start_presets.Statement.{statement}
 use Rattle.relays.proofs.start_presets.Tie as tie
 
@@ -11,7 +11,7 @@ returns : tie.Need-returns
 unfolding judged startPresets
 returns c =
     let i = c .before in
-    rw (c .answer .ensures, sym (i .before .items-of .ensures) ∙ not-true _ (i .if1 .taken))
+    rw (c .answer .ensures, items-length 1 _, sym (i .before .items-of .ensures) ∙ not-true _ (i .if1 .taken))
 
 returns-2 : tie.Need-returns-2
 unfolding judged startPresets
@@ -20,7 +20,7 @@ returns-2 c =
     let i = f .before .before in
     let few = sym (i .before .items-of .ensures) ∙ not-false _ (i .if1 .left) in
     let ready = sym (f .before .all-ready .ensures) ∙ not-true _ (f .if2 .taken) in
-    rw (c .answer2 .ensures, few, ready)
+    rw (c .answer2 .ensures, items-length 1 _, few, ready)
 
 returns-3 : tie.Need-returns-3
 unfolding judged startPresets
@@ -31,7 +31,7 @@ returns-3 c =
     let few = sym (i .before .items-of .ensures) ∙ not-false _ (i .if1 .left) in
     let ready = sym (f .before .all-ready .ensures) ∙ not-false _ (f .if2 .left) in
     let free = sym (h .before .all-free .ensures) ∙ not-true _ (h .if3 .taken) in
-    rw (c .answer3 .ensures, few, ready, free)
+    rw (c .answer3 .ensures, items-length 1 _, few, ready, free)
 
 returns-4 : tie.Need-returns-4
 unfolding judged startPresets
@@ -42,13 +42,13 @@ returns-4 c =
     let few = sym (i .before .items-of .ensures) ∙ not-false _ (i .if1 .left) in
     let ready = sym (f .before .all-ready .ensures) ∙ not-false _ (f .if2 .left) in
     let free = sym (h .before .all-free .ensures) ∙ not-false _ (h .if3 .left) in
-    rw (c .answer4 .ensures, c .before .start-each .ensures, few, ready, free)
+    rw (c .answer4 .ensures, c .before .start-each .ensures, items-length 1 _, few, ready, free)
 
 pub start-presets-spec : {M : Type 1} → statement M
 start-presets-spec =
     tie.close
     (tie.spec
-    (λ c κs. omega arith)
+    (λ c κs. tt)
     (λ c κs. tt)
     returns
     (λ c κs. tt)

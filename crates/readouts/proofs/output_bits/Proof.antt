@@ -1,0 +1,81 @@
+-- `readouts::output_bits` meets its contract. The loop goes from the last output down; its invariant: `bits` is the number of the states from `i` on. Assumes nothing.
+use Prim.Native.Nat.{_-_, _≤_}
+use native.Mathlib.Omega.{arith}
+use mathlib.Core.Path.{_≡_, _∙_}
+use borrow.Author.Needs.{needs}
+use lib.ListN.{length, getD, drop}
+use Rattle.lists.specs.Numbers.{bitsNumber}
+use Rattle.model.specs.State.{freshOutput}
+use Rattle.model.specs.Outputs.{outputStates}
+use Rattle.octets.proofs.Bits.{byte≤}
+use Rattle.readouts.proofs.States.{states-turn, states-half, states-none}
+use Rattle.readouts.proofs.output_bits.Statement.{statement}
+use Rattle.readouts.proofs.output_bits.Tie as tie
+
+abbrev Inv-loop : tie.InvT-loop
+Inv-loop os bits₀ i₀ bits i = (i ≤ 16) × (bits ≡ bitsNumber (drop i (outputStates os)))
+
+abbrev μ-loop : tie.MeasureT-loop
+μ-loop os bits₀ i₀ bits i = i
+
+long : (c : tie.Start Inv-loop μ-loop) → length (c .args .t1) ≡ 16
+long c = search needs
+
+loop-holds : tie.Need-loop-holds Inv-loop μ-loop
+loop-holds c = (omega arith, states-none (c .args .t1) (long c))
+
+sub-i : tie.Need-sub-i Inv-loop μ-loop
+sub-i c = omega arith
+
+mul-o : tie.Need-mul-o Inv-loop μ-loop
+mul-o c = omega arith
+
+array-copy-out-o : tie.Need-array-copy-out-o Inv-loop μ-loop
+array-copy-out-o c = omega arith
+
+cast-s : tie.Need-cast-s Inv-loop μ-loop
+cast-s c = tt
+
+mul-bits : tie.Need-mul-bits Inv-loop μ-loop
+mul-bits c =
+    let l = c .before .before in
+    let s = l .before .before in
+    omega (arith, l .before .loop .inv, states-half (s .args .t1) (l .before .loop .i) (long s) (l .loop-test .taken))
+
+add-bits : tie.Need-add-bits Inv-loop μ-loop
+add-bits c =
+    let l = c .before .before in
+    let s = l .before .before in
+    let i = l .before .loop .i in
+    omega (arith, l .before .loop .inv, states-half (s .args .t1) i (long s) (l .loop-test .taken), byte≤ (getD (s .args .t1) (i - 1) freshOutput .on))
+
+loop-less : tie.Need-loop-less Inv-loop μ-loop
+loop-less c = omega arith
+
+loop-again : tie.Need-loop-again Inv-loop μ-loop
+loop-again c =
+    let l = c .before .before in
+    let p = l .before in
+    (omega arith, rw (p .loop .inv .1) (states-turn (p .before .args .t1) (p .loop .i) (long (p .before)) (l .loop-test .taken) (p .loop .inv .0)))
+
+returns : tie.Need-returns Inv-loop μ-loop
+returns c =
+    let e : c .before .loop .i ≡ 0 = omega arith in
+    c .before .loop .inv .1 ∙ rw e
+
+pub output-bits-spec : {M : Type 1} → statement M
+output-bits-spec =
+    tie.close
+    (tie.spec
+    Inv-loop
+    μ-loop
+    loop-holds
+    sub-i
+    mul-o
+    array-copy-out-o
+    cast-s
+    mul-bits
+    add-bits
+    loop-less
+    loop-again
+    returns)
