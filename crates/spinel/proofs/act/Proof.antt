@@ -1,0 +1,55 @@
+-- `spinel::act` meets its contract. Assumes nothing.
+use borrow.Author.Needs.{needs}
+use mathlib.Core.Path.{_∙_}
+use denote.Ref.{now}
+use Rattle.model.specs.Frames.{spinelTo, signatureOf}
+use Rattle.model.specs.Spinel.{spinelActed, spinelRequest, spinelUsed}
+use Rattle.model.proofs.Short.{spinel-short}
+use Rattle.spinel.proofs.Laws.{answered-law}
+use Rattle.spinel.proofs.act.Statement.{statement}
+use Rattle.spinel.proofs.act.Tie as tie
+
+shared-slice-read-to : tie.Need-shared-slice-read-to
+shared-slice-read-to c = search needs
+
+shared-slice-read-signature : tie.Need-shared-slice-read-signature
+shared-slice-read-signature c = search needs
+
+shared-slice-read-instruction : tie.Need-shared-slice-read-instruction
+shared-slice-read-instruction c = search needs
+
+spinel-data-requires : tie.Need-spinel-data-requires
+spinel-data-requires c κs = search needs
+
+use-up-requires : tie.Need-use-up-requires
+use-up-requires c κs = search needs
+
+serve-requires : tie.Need-serve-requires
+serve-requires c κs = search needs
+
+answer-requires : tie.Need-answer-requires
+answer-requires c κs = search needs
+
+returns : tie.Need-returns
+unfolding spinelActed spinelRequest
+returns c =
+    let s = c .before in
+    let u = s .before in
+    let sent = u .before in
+    let a = sent .before .before .before .before .before .before .args in
+    let f = now (a .frame) in
+    c .answer .ensures
+    ∙ answered-law (a .m .spinel .address) (spinelTo f) (signatureOf f) (s .serve .result) _ (rw (u .use-up .ensures, sent .spinel-data .ensures) at (s .serve .ensures)) (spinel-short (spinelRequest f (a .m)) (spinelUsed (a .m)) (spinelUsed (a .m)))
+
+pub act-spec : {M : Type 1} → statement M
+act-spec =
+    tie.close
+    (tie.spec
+    shared-slice-read-to
+    shared-slice-read-signature
+    shared-slice-read-instruction
+    spinel-data-requires
+    use-up-requires
+    serve-requires
+    answer-requires
+    returns)

@@ -1,0 +1,26 @@
+-- `spinel::deduct_counters` meets its contract. Assumes nothing.
+use borrow.Author.Needs.{needs}
+use denote.Ref.{now}
+use Rattle.model.specs.Counters.{deductCounters}
+use Rattle.model.specs.State.{withInputs, withCounters}
+use Rattle.spinel.proofs.Laws.{part-law, deduct-plain}
+use Rattle.spinel.proofs.deduct_counters.Statement.{statement}
+use Rattle.spinel.proofs.deduct_counters.Tie as tie
+
+deduct-counters-requires : tie.Need-deduct-counters-requires
+deduct-counters-requires c κs = search needs
+
+empty-requires : tie.Need-empty-requires
+empty-requires c κs = search needs
+
+put-counters-requires : tie.Need-put-counters-requires
+put-counters-requires c κs = search needs
+
+returns : tie.Need-returns
+returns c =
+    let a = c .before .before .before .before .before .before .before .args in
+    rw (c .put-counters .ensures, c .before .empty .ensures, c .before .before .before .deduct-counters .ensures) (part-law (λ cs. withInputs (a .m) (withCounters (a .m .inputs) cs)) (a .m .inputs .counters) (deductCounters (now (a .d)) (a .m .inputs .counters)) (deduct-plain (now (a .d)) (a .m .inputs .counters)))
+
+pub deduct-counters-spec : {M : Type 1} → statement M
+deduct-counters-spec =
+    tie.close (tie.spec deduct-counters-requires empty-requires put-counters-requires returns)

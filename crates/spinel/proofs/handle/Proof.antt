@@ -1,0 +1,36 @@
+-- `spinel::handle` meets its contract. Assumes nothing.
+use borrow.Author.Needs.{needs}
+use mathlib.Core.Path.{sym, ap, _∙_}
+use denote.Ref.{now}
+use Rattle.model.specs.Spinel.{spinelActed, spinelHandled}
+use Rattle.frames.proofs.Passing.{spinel-passes}
+use Rattle.spinel.specs.Parts.{handledOf}
+use Rattle.spinel.proofs.Laws.{refused-law}
+use Rattle.spinel.proofs.handle.Statement.{statement}
+use Rattle.spinel.proofs.handle.Tie as tie
+
+spinel-refusal-requires : tie.Need-spinel-refusal-requires
+spinel-refusal-requires c κs = search needs
+
+empty-requires : tie.Need-empty-requires
+empty-requires c κs = search needs
+
+returns : tie.Need-returns
+unfolding spinelHandled
+returns c =
+    let k = c .before .before in
+    let a = k .before .before .before .args in
+    rw (c .empty .ensures) (ap handledOf (refused-law (k .spinel-refusal .result) (a .m) (spinelActed (now (a .frame)) (a .m)) (c .before .if1 .taken)) ∙ rw (k .spinel-refusal .ensures))
+
+act-requires : tie.Need-act-requires
+act-requires c κs = spinel-passes _ _ (sym (c .before .spinel-refusal .ensures) ∙ c .if1 .left) .least
+
+returns-2 : tie.Need-returns-2
+unfolding spinelHandled
+returns-2 c =
+    let e = c .before in
+    rw (c .act .ensures, sym (e .before .spinel-refusal .ensures) ∙ e .if1 .left)
+
+pub handle-spec : {M : Type 1} → statement M
+handle-spec =
+    tie.close (tie.spec spinel-refusal-requires empty-requires returns act-requires returns-2)

@@ -1,0 +1,31 @@
+-- `spinel::read_inputs` meets its contract. Assumes nothing.
+use borrow.Author.Needs.{needs}
+use mathlib.Core.Path.{sym}
+use denote.Ref.{now}
+use Rattle.model.specs.Outputs.{readStates}
+use Rattle.model.specs.Samples.{inputStates}
+use Rattle.readouts.proofs.States.{states-told}
+use Rattle.spinel.proofs.Laws.{told-law}
+use Rattle.inputs.specs.Passes.{stableBits}
+use Rattle.spinel.proofs.read_inputs.Statement.{statement}
+use Rattle.spinel.proofs.read_inputs.Tie as tie
+
+stable-bits-requires : tie.Need-stable-bits-requires
+stable-bits-requires c κs = search needs
+
+read-states-requires : tie.Need-read-states-requires
+read-states-requires c κs = search needs
+
+told-requires : tie.Need-told-requires
+told-requires c κs = search needs
+
+returns : tie.Need-returns
+unfolding readStates stableBits
+returns c =
+    let a = c .before .before .before .before .before .before .args in
+    let bs = inputStates (a .m .inputs) in
+    rw (c .told .ensures, c .before .read-states .ensures, states-told (a .m) (now (a .d)) bs _ (sym (c .before .before .stable-bits .ensures))) (told-law (a .m) (a .m) (readStates (now (a .d)) bs (a .m)))
+
+pub read-inputs-spec : {M : Type 1} → statement M
+read-inputs-spec =
+    tie.close (tie.spec stable-bits-requires read-states-requires told-requires returns)

@@ -1,0 +1,22 @@
+-- `spinel::read_notice` meets its contract. Assumes nothing.
+use borrow.Author.Needs.{needs}
+use denote.Ref.{now}
+use Rattle.model.specs.Notice.{readNotice}
+use Rattle.spinel.proofs.Laws.{told-law}
+use Rattle.spinel.proofs.read_notice.Statement.{statement}
+use Rattle.spinel.proofs.read_notice.Tie as tie
+
+read-notice-requires : tie.Need-read-notice-requires
+read-notice-requires c κs = search needs
+
+told-requires : tie.Need-told-requires
+told-requires c κs = search needs
+
+returns : tie.Need-returns
+unfolding readNotice
+returns c =
+    let a = c .before .before .before .args in
+    rw (c .told .ensures, c .before .read-notice .ensures) (told-law (a .m) (a .m .notice) (readNotice (now (a .d)) (a .m .notice) (a .m .notice)))
+
+pub read-notice-spec : {M : Type 1} → statement M
+read-notice-spec = tie.close (tie.spec read-notice-requires told-requires returns)

@@ -1,0 +1,420 @@
+// The Spinel port: each instruction on the part of the state that it may change, the permission, and the reply. `handle` is pure.
+ghost use mathlib.Core.Path.{_≡_};
+ghost use Prim.Native.Nat.{_≤_};
+ghost use lib.ListN.{length};
+ghost use Rattle.model.specs.State.{withInputs, withOutputs, withPresets, withThermostats, withNotice, withSpinel, withModes, withCounters};
+ghost use Rattle.model.specs.Samples.{inputStates};
+ghost use Rattle.model.specs.Refusals.{notListed, onPart, judged};
+ghost use Rattle.model.specs.Counters.{listRead, readCounters, deductCounters, setModesList, modeShown, setSampling, readSampling, givePermission, setPort, readPort, resetModule};
+ghost use Rattle.model.specs.Outputs.{setOutputs, setPulses, setPresets, startPresets, pulseShown, presetShown, modeByte, outputStates, readStates};
+ghost use Rattle.model.specs.Notice.{setNotice, readNotice};
+ghost use Rattle.model.specs.Temperature.{readTemperature, setThermostats, readThermostats};
+ghost use Rattle.model.specs.Spinel.{spinelAsked, spinelUsed, spinelActed, spinelHandled};
+ghost use Rattle.spinel.specs.Parts.{servedOf, handledOf, plain, toldAbout, countersPut, answeredTo};
+use lists::Data;
+use model::Module;
+use octets::Told;
+use relays::Switched;
+
+// What an instruction comes to: the refusal's number or 0, the state after, and the reply's data.
+pub struct Served {
+    pub refusal: u8,
+    pub after: Module,
+    pub body: Data,
+}
+
+// What a frame comes to, whatever the lent buffer: the same, with the reply's bytes.
+pub struct Handled {
+    pub refusal: u8,
+    pub after: Module,
+    pub reply: Data,
+}
+
+// An answer without data.
+fn bare(refusal: u8, after: Module) -> Served
+    ensures { λ r. ⌜ r ≡ plain refusal after ⌝ }
+{
+    Served {
+        refusal,
+        after,
+        body: octets::empty(),
+    }
+}
+
+// An answer that only reads.
+fn told(m: Module, t: Told) -> Served
+    ensures { λ r. ⌜ r ≡ toldAbout m t ⌝ }
+{
+    let body = t.reply;
+    Served {
+        refusal: t.refusal,
+        after: m,
+        body,
+    }
+}
+
+// 10H
+fn set_notice(m: Module, signature: u8, d: &[u8]) -> Served
+    ensures { λ r. ⌜ r ≡ servedOf (judged m (onPart (withNotice m) (setNotice signature (now (d .entry)) (m .notice)))) ⌝ }
+{
+    let s = settings::set_notice(signature, d, m.notice);
+    let notice = s.notice;
+    let mut next = m;
+    next.notice = notice;
+    bare(s.refusal, next)
+}
+
+// 11H
+fn read_notice(m: Module, d: &[u8]) -> Served
+    ensures { λ r. ⌜ r ≡ servedOf (judged m (readNotice (now (d .entry)) (m .notice) m)) ⌝ }
+{
+    told(m, settings::read_notice(d, m.notice))
+}
+
+// 1AH
+fn set_thermostats(m: Module, d: &[u8]) -> Served
+    ensures { λ r. ⌜ r ≡ servedOf (judged m (onPart (withThermostats m) (setThermostats (now (d .entry)) (m .thermostats)))) ⌝ }
+{
+    let hs = m.thermostats;
+    let s = setpoints::set_thermostats(d, hs);
+    let thermostats = s.thermostats;
+    let mut next = m;
+    next.thermostats = thermostats;
+    bare(s.refusal, next)
+}
+
+// 1BH
+fn read_thermostats(m: Module, d: &[u8]) -> Served
+    ensures { λ r. ⌜ r ≡ servedOf (judged m (readThermostats (now (d .entry)) (m .thermostats) m)) ⌝ }
+{
+    let hs = m.thermostats;
+    told(m, setpoints::read_thermostats(d, hs))
+}
+
+// The outputs after an instruction.
+fn put_outputs(m: Module, s: Switched) -> Served
+    ensures { λ r. ⌜ r ≡ plain (s .refusal) (withOutputs m (s .outputs)) ⌝ }
+{
+    let outputs = s.outputs;
+    let mut next = m;
+    next.outputs = outputs;
+    bare(s.refusal, next)
+}
+
+// 20H
+fn set_outputs(m: Module, d: &[u8]) -> Served
+    ensures { λ r. ⌜ r ≡ servedOf (judged m (onPart (withOutputs m) (setOutputs (m .reading) (m .thermostats) (now (d .entry)) (m .outputs)))) ⌝ }
+{
+    let hs = m.thermostats;
+    let os = m.outputs;
+    let reading = m.reading;
+    put_outputs(m, relays::set_outputs(reading, hs, d, os))
+}
+
+// 23H
+fn set_pulses(m: Module, d: &[u8]) -> Served
+    ensures { λ r. ⌜ r ≡ servedOf (judged m (onPart (withOutputs m) (setPulses (m .reading) (m .thermostats) (now (d .entry)) (m .outputs)))) ⌝ }
+{
+    let hs = m.thermostats;
+    let os = m.outputs;
+    let reading = m.reading;
+    put_outputs(m, relays::set_pulses(reading, hs, d, os))
+}
+
+// 25H
+fn start_presets(m: Module, d: &[u8]) -> Served
+    ensures { λ r. ⌜ r ≡ servedOf (judged m (onPart (withOutputs m) (startPresets (m .presets) (m .reading) (m .thermostats) (now (d .entry)) (m .outputs)))) ⌝ }
+{
+    let ps = m.presets;
+    let hs = m.thermostats;
+    let os = m.outputs;
+    let reading = m.reading;
+    put_outputs(m, relays::start_presets(ps, reading, hs, d, os))
+}
+
+// 26H
+fn set_presets(m: Module, d: &[u8]) -> Served
+    ensures { λ r. ⌜ r ≡ servedOf (judged m (onPart (withPresets m) (setPresets (now (d .entry)) (m .presets)))) ⌝ }
+{
+    let ps = m.presets;
+    let s = relays::set_presets(d, ps);
+    let presets = s.presets;
+    let mut next = m;
+    next.presets = presets;
+    bare(s.refusal, next)
+}
+
+// 30H
+fn read_outputs(m: Module, d: &[u8]) -> Served
+    ensures { λ r. ⌜ r ≡ servedOf (judged m (readStates (now (d .entry)) (outputStates (m .outputs)) m)) ⌝ }
+{
+    let os = m.outputs;
+    told(m, readouts::read_states(d, readouts::output_bits(os)))
+}
+
+// 31H
+fn read_inputs(m: Module, d: &[u8]) -> Served
+    ensures { λ r. ⌜ r ≡ servedOf (judged m (readStates (now (d .entry)) (inputStates (m .inputs)) m)) ⌝ }
+{
+    let x = m.inputs;
+    let lines = x.lines;
+    told(m, readouts::read_states(d, inputs::stable_bits(lines)))
+}
+
+// 33H
+fn read_pulses(m: Module, d: &[u8]) -> Served
+    ensures { λ r. ⌜ r ≡ servedOf (judged m (listRead (pulseShown (m .outputs)) (now (d .entry)) m)) ⌝ }
+{
+    let os = m.outputs;
+    told(m, readouts::read_pulses(os, d))
+}
+
+// 36H
+fn read_presets(m: Module, d: &[u8]) -> Served
+    ensures { λ r. ⌜ r ≡ servedOf (judged m (listRead (presetShown (m .presets)) (now (d .entry)) m)) ⌝ }
+{
+    let ps = m.presets;
+    told(m, readouts::read_presets(ps, d))
+}
+
+// 38H
+fn read_output_modes(m: Module, d: &[u8]) -> Served
+    ensures { λ r. ⌜ r ≡ servedOf (judged m (listRead (modeByte (m .thermostats) (m .presets)) (now (d .entry)) m)) ⌝ }
+{
+    let hs = m.thermostats;
+    let ps = m.presets;
+    told(m, readouts::read_modes(hs, ps, d))
+}
+
+// 51H
+fn read_temperature(m: Module, d: &[u8]) -> Served
+    ensures { λ r. ⌜ r ≡ servedOf (judged m (readTemperature (now (d .entry)) (m .reading) m)) ⌝ }
+{
+    let reading = m.reading;
+    told(m, setpoints::read_temperature(d, reading))
+}
+
+// The counters after an instruction.
+fn put_counters(m: Module, refusal: u8, counters: [u16; 16], body: Data) -> Served
+    ensures { λ r. ⌜ r ≡ countersPut m refusal counters body ⌝ }
+{
+    let mut x = m.inputs;
+    x.counters = counters;
+    let mut next = m;
+    next.inputs = x;
+    Served {
+        refusal,
+        after: next,
+        body,
+    }
+}
+
+// 60H
+fn read_counters(m: Module, d: &[u8]) -> Served
+    ensures { λ r. ⌜ r ≡ servedOf (judged m (onPart (λ cs. withInputs m (withCounters (m .inputs) cs)) (readCounters (now (d .entry)) (m .inputs .counters)))) ⌝ }
+{
+    let x = m.inputs;
+    let cs = x.counters;
+    let s = counters::read_counters(cs, d);
+    let after = s.counters;
+    let body = s.reply;
+    put_counters(m, s.refusal, after, body)
+}
+
+// 61H
+fn deduct_counters(m: Module, d: &[u8]) -> Served
+    ensures { λ r. ⌜ r ≡ servedOf (judged m (onPart (λ cs. withInputs m (withCounters (m .inputs) cs)) (deductCounters (now (d .entry)) (m .inputs .counters)))) ⌝ }
+{
+    let x = m.inputs;
+    let cs = x.counters;
+    let s = counters::deduct_counters(cs, d);
+    let after = s.counters;
+    put_counters(m, s.refusal, after, octets::empty())
+}
+
+// 62H
+fn set_sampling(m: Module, d: &[u8]) -> Served
+    ensures { λ r. ⌜ r ≡ servedOf (judged m (onPart (withInputs m) (setSampling (now (d .entry)) (m .inputs)))) ⌝ }
+{
+    let x = m.inputs;
+    let s = counters::set_sampling(x, d);
+    let inputs = s.inputs;
+    let mut next = m;
+    next.inputs = inputs;
+    bare(s.refusal, next)
+}
+
+// 63H
+fn read_sampling(m: Module, d: &[u8]) -> Served
+    ensures { λ r. ⌜ r ≡ servedOf (judged m (readSampling (now (d .entry)) (m .inputs) m)) ⌝ }
+{
+    let x = m.inputs;
+    told(m, counters::read_sampling(x, d))
+}
+
+// 6AH
+fn set_modes(m: Module, d: &[u8]) -> Served
+    ensures { λ r. ⌜ r ≡ servedOf (judged m (onPart (λ ms. withInputs m (withModes (m .inputs) ms)) (setModesList (now (d .entry)) (m .inputs .modes)))) ⌝ }
+{
+    let mut x = m.inputs;
+    let ms = x.modes;
+    let s = counters::set_modes(ms, d);
+    let after = s.modes;
+    x.modes = after;
+    let mut next = m;
+    next.inputs = x;
+    bare(s.refusal, next)
+}
+
+// 6BH
+fn read_modes(m: Module, d: &[u8]) -> Served
+    ensures { λ r. ⌜ r ≡ servedOf (judged m (listRead (modeShown (m .inputs .modes)) (now (d .entry)) m)) ⌝ }
+{
+    let x = m.inputs;
+    let ms = x.modes;
+    told(m, counters::read_modes(ms, d))
+}
+
+// E0H
+fn set_port(m: Module, permitted: bool, universal: bool, d: &[u8]) -> Served
+    ensures { λ r. ⌜ r ≡ servedOf (judged m (setPort permitted universal (now (d .entry)) m)) ⌝ }
+{
+    let s = settings::set_port(permitted, universal, d, m);
+    let after = s.after;
+    bare(s.refusal, after)
+}
+
+// E3H
+fn reset_module(m: Module, d: &[u8]) -> Served
+    ensures { λ r. ⌜ r ≡ servedOf (judged m (resetModule (now (d .entry)) m)) ⌝ }
+{
+    let s = settings::reset_module(d, m);
+    let after = s.after;
+    bare(s.refusal, after)
+}
+
+// E4H
+fn give_permission(m: Module, universal: bool, d: &[u8]) -> Served
+    ensures { λ r. ⌜ r ≡ servedOf (judged m (onPart (withSpinel m) (givePermission universal (now (d .entry)) (m .spinel)))) ⌝ }
+{
+    let s = settings::give_permission(universal, d, m.spinel);
+    let spinel = s.port;
+    let mut next = m;
+    next.spinel = spinel;
+    bare(s.refusal, next)
+}
+
+// F0H
+fn read_port(m: Module, d: &[u8]) -> Served
+    ensures { λ r. ⌜ r ≡ servedOf (judged m (readPort (now (d .entry)) (m .spinel) m)) ⌝ }
+{
+    told(m, settings::read_port(d, m.spinel))
+}
+
+// The instruction byte: each arm one small function.
+fn serve(
+    m: Module,
+    permitted: bool,
+    universal: bool,
+    signature: u8,
+    instruction: u8,
+    d: &[u8],
+) -> Served
+    ensures { λ r. ⌜ r ≡ servedOf (judged m (spinelAsked (record { permitted = permitted; toUniversal = universal; signature = signature; instruction = instruction; content = now (d .entry) }) m)) ⌝ }
+{
+    match instruction {
+        0x10 => set_notice(m, signature, d),
+        0x11 => read_notice(m, d),
+        0x1A => set_thermostats(m, d),
+        0x1B => read_thermostats(m, d),
+        0x20 => set_outputs(m, d),
+        0x23 => set_pulses(m, d),
+        0x25 => start_presets(m, d),
+        0x26 => set_presets(m, d),
+        0x30 => read_outputs(m, d),
+        0x31 => read_inputs(m, d),
+        0x33 => read_pulses(m, d),
+        0x36 => read_presets(m, d),
+        0x38 => read_output_modes(m, d),
+        0x51 => read_temperature(m, d),
+        0x60 => read_counters(m, d),
+        0x61 => deduct_counters(m, d),
+        0x62 => set_sampling(m, d),
+        0x63 => read_sampling(m, d),
+        0x6A => set_modes(m, d),
+        0x6B => read_modes(m, d),
+        0xE0 => set_port(m, permitted, universal, d),
+        0xE3 => reset_module(m, d),
+        0xE4 => give_permission(m, universal, d),
+        0xF0 => read_port(m, d),
+        _ => bare(7, m),
+    }
+}
+
+// A request that passes 1 to 6 uses the port's permission up.
+fn use_up(m: Module) -> Module
+    ensures { λ r. ⌜ r ≡ spinelUsed m ⌝ }
+{
+    let spinel = settings::permitted(m.spinel, false);
+    let mut next = m;
+    next.spinel = spinel;
+    next
+}
+
+// The reply: none to a broadcast.
+fn answer(own: u8, to: u8, signature: u8, s: Served) -> Handled
+    ensures { λ r. ⌜ r ≡ answeredTo own to signature s ⌝ }
+{
+    let refusal = s.refusal;
+    let after = s.after;
+    if to == 0xFF {
+        return Handled {
+            refusal,
+            after,
+            reply: octets::empty(),
+        };
+    }
+    let body = s.body;
+    Handled {
+        refusal,
+        after,
+        reply: frames::spinel_reply(own, signature, frames::ack_of(refusal), body),
+    }
+}
+
+// A frame that passes 2 to 6.
+fn act(m: Module, frame: &[u8]) -> Handled
+    requires { ⌜ 9 ≤ length (now frame) ⌝ }
+    ensures { λ r. ⌜ r ≡ handledOf (spinelActed (now (frame .entry)) m) ⌝ }
+{
+    let port = m.spinel;
+    let to = frame[4];
+    let signature = frame[5];
+    let instruction = frame[6];
+    let d = frames::spinel_data(frame);
+    let s = serve(
+        use_up(m),
+        port.permitted,
+        to == 0xFE,
+        signature,
+        instruction,
+        d,
+    );
+    answer(port.address, to, signature, s)
+}
+
+// Any frame: checks 2 to 6, then the instruction.
+pub fn handle(m: Module, frame: &[u8]) -> Handled
+    ensures { λ r. ⌜ r ≡ handledOf (spinelHandled (now (frame .entry)) m) ⌝ }
+{
+    let port = m.spinel;
+    let refusal = frames::spinel_refusal(port.address, frame);
+    if refusal != 0 {
+        return Handled {
+            refusal,
+            after: m,
+            reply: octets::empty(),
+        };
+    }
+    act(m, frame)
+}
