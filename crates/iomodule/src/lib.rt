@@ -5,7 +5,8 @@ ghost use lib.ListN.{length, take};
 ghost use Rattle.lists.specs.Data.{over};
 ghost use Rattle.model.specs.State.{freshModule};
 ghost use Rattle.model.specs.Temperature.{readingOf, taken};
-ghost use Rattle.model.specs.Calls.{sampleCall, temperatureCall, answerOf, Answered};
+ghost use Rattle.model.specs.Refusals.{silent};
+ghost use Rattle.model.specs.Calls.{sampleCall, temperatureCall, spinelCall, answerOf, Answered};
 ghost use Rattle.iomodule.specs.Parts.{noticeData, noticeDue, steppedOf};
 use lists::Data;
 use model::Answer;
@@ -94,16 +95,23 @@ fn step(m: Module, bits: u16) -> Stepped
     }
 }
 
+// Refusal 1: the lent buffer is too short.
+fn no_room(m: Module) -> Answer
+    ensures { λ r. ⌜ r ≡ answerOf (silent 1 m) ⌝ }
+{
+    Answer {
+        refusal: 1,
+        len: 0,
+        after: m,
+    }
+}
+
 // The millisecond sample: sixteen bits, the lowest is input 1.
 pub fn sample(m: Module, bits: u16, reply: &mut [u8]) -> Answer
     ensures { λ r. ⌜ Answered (sampleCall (length (now (reply .entry))) bits m) r (now (reply .entry)) (now (reply .exit)) ⌝ }
 {
     if reply.len() < 256 {
-        return Answer {
-            refusal: 1,
-            len: 0,
-            after: m,
-        };
+        return no_room(m);
     }
     let s = step(m, bits);
     let noticed = s.noticed;
@@ -156,5 +164,27 @@ pub fn temperature(m: Module, good: bool, tenths: i16) -> Answer
         refusal: 0,
         len: 0,
         after: heated(m, good, tenths),
+    }
+}
+
+// A Spinel frame of any bytes: refusal 1, else what the frame comes to, its reply written to the lent buffer.
+pub fn spinel(m: Module, frame: &[u8], reply: &mut [u8]) -> Answer
+    ensures { λ r. ⌜ Answered (spinelCall (length (now (reply .entry))) (now (frame .entry)) m) r (now (reply .entry)) (now (reply .exit)) ⌝ }
+{
+    let room = reply.len();
+    if room < 256 {
+        return no_room(m);
+    }
+    let h = spinel::handle(m, frame);
+    let refusal = h.refusal;
+    let after = h.after;
+    let d = h.reply;
+    let bytes = d.bytes;
+    let len = d.len;
+    copy_out(bytes, len, reply);
+    Answer {
+        refusal,
+        len,
+        after,
     }
 }

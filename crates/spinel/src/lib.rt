@@ -4,7 +4,7 @@ ghost use Prim.Native.Nat.{_≤_};
 ghost use lib.ListN.{length};
 ghost use Rattle.model.specs.State.{withInputs, withOutputs, withPresets, withThermostats, withNotice, withSpinel, withModes, withCounters};
 ghost use Rattle.model.specs.Samples.{inputStates};
-ghost use Rattle.model.specs.Refusals.{notListed, onPart, judged};
+ghost use Rattle.model.specs.Refusals.{onPart, judged, silent};
 ghost use Rattle.model.specs.Counters.{listRead, readCounters, deductCounters, setModesList, modeShown, setSampling, readSampling, givePermission, setPort, readPort, resetModule};
 ghost use Rattle.model.specs.Outputs.{setOutputs, setPulses, setPresets, startPresets, pulseShown, presetShown, modeByte, outputStates, readStates};
 ghost use Rattle.model.specs.Notice.{setNotice, readNotice};
@@ -382,6 +382,18 @@ fn answer(own: u8, to: u8, signature: u8, s: Served) -> Handled
     }
 }
 
+// A frame that fails 2 to 6: nothing changes, and there is no reply.
+fn unheard(refusal: u8, m: Module) -> Handled
+    ensures { λ r. ⌜ r ≡ handledOf (silent refusal m) ⌝ }
+{
+    let after = m;
+    Handled {
+        refusal,
+        after,
+        reply: octets::empty(),
+    }
+}
+
 // A frame that passes 2 to 6.
 fn act(m: Module, frame: &[u8]) -> Handled
     requires { ⌜ 9 ≤ length (now frame) ⌝ }
@@ -410,11 +422,7 @@ pub fn handle(m: Module, frame: &[u8]) -> Handled
     let port = m.spinel;
     let refusal = frames::spinel_refusal(port.address, frame);
     if refusal != 0 {
-        return Handled {
-            refusal,
-            after: m,
-            reply: octets::empty(),
-        };
+        return unheard(refusal, m);
     }
     act(m, frame)
 }

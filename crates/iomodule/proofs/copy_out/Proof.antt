@@ -1,7 +1,7 @@
 -- `iomodule::copy_out` meets its contract. Assumes nothing.
 use borrow.Author.Needs.{needs}
 use native.Mathlib.Omega.{arith}
-use Prim.Native.Nat.{ℕ, _≤_, _-_}
+use Prim.Native.Nat.{_≤_, _-_}
 use mathlib.Core.Path.{_≡_, refl}
 use mathlib.Core.List.{_++_}
 use denote.Ref.{now}
@@ -10,8 +10,6 @@ use lib.Seq.{length-take-le}
 use Rattle.lists.proofs.DataLaws.{over-turn}
 use Rattle.iomodule.proofs.copy_out.Statement.{statement}
 use Rattle.iomodule.proofs.copy_out.Tie as tie
-use Rattle.iomodule.proofs.copy_out.Reads as reads
-use Rattle.iomodule.proofs.copy_out.Lts as lts
 
 abbrev Inv-loop : tie.InvT-loop
 Inv-loop n reply₀ bytes i₀ reply i = (i ≤ n) × (length reply ≡ length reply₀) × (reply ≡ take i bytes ++ drop i reply₀)

@@ -4,10 +4,6 @@ use mir.Facts.{toZ-ofZ}
 use Rattle.thermostat.proofs.TakenLaw.{taken-parts}
 use Rattle.iomodule.proofs.heated.Statement.{statement}
 use Rattle.iomodule.proofs.heated.Tie as tie
-use Rattle.iomodule.proofs.heated.Reads as reads
-use Rattle.iomodule.proofs.heated.Lts as lts
-use Rattle.thermostat.proofs.reading_of.Reads as reading-of-reads
-use Rattle.thermostat.proofs.take_reading.Reads as take-reading-reads
 
 reading-of-requires : tie.Need-reading-of-requires
 reading-of-requires c κs = search needs

@@ -8,8 +8,6 @@ use Rattle.iomodule.specs.Parts.{noticeData}
 use Rattle.iomodule.proofs.Laws.{notice-sum}
 use Rattle.iomodule.proofs.notice_data.Statement.{statement}
 use Rattle.iomodule.proofs.notice_data.Tie as tie
-use Rattle.iomodule.proofs.notice_data.Reads as reads
-use Rattle.iomodule.proofs.notice_data.Lts as lts
 
 cast-high : tie.Need-cast-high
 cast-high c = search needs

@@ -4,9 +4,6 @@ use borrow.Author.Tests.{not-true, not-false, eq-eqb, ne-eqb}
 use Rattle.iomodule.specs.Parts.{noticeDue}
 use Rattle.iomodule.proofs.notice_due.Statement.{statement}
 use Rattle.iomodule.proofs.notice_due.Tie as tie
-use Rattle.iomodule.proofs.notice_due.Reads as reads
-use Rattle.iomodule.proofs.notice_due.Lts as lts
-use Rattle.inputs.proofs.any_masked.Reads as any-masked-reads
 
 returns : tie.Need-returns
 unfolding noticeDue

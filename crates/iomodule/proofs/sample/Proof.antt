@@ -9,16 +9,13 @@ use Rattle.model.specs.Calls.{sampleCall}
 use Rattle.iomodule.proofs.Laws.{with-notice, without-notice}
 use Rattle.iomodule.proofs.sample.Statement.{statement}
 use Rattle.iomodule.proofs.sample.Tie as tie
-use Rattle.iomodule.proofs.sample.Reads as reads
-use Rattle.iomodule.proofs.sample.Lts as lts
-use Rattle.inputs.proofs.stable_bits.Reads as stable-bits-reads
-use Rattle.iomodule.proofs.copy_out.Reads as copy-out-reads
-use Rattle.iomodule.proofs.notice_data.Reads as notice-data-reads
-use Rattle.iomodule.proofs.step.Reads as step-reads
+
+no-room-requires : tie.Need-no-room-requires
+no-room-requires c κs = search needs
 
 returns : tie.Need-returns
 unfolding sampleCall
-returns c = rw (lt-ltb (length (now (c .before .before .args .reply))) 256 (omega arith)) (record { answer = refl; buffer = refl })
+returns c = rw (lt-ltb (length (now (c .before .before .before .args .reply))) 256 (omega arith)) (record { answer = c .no-room .ensures; buffer = refl })
 
 step-requires : tie.Need-step-requires
 step-requires c κs = search needs
@@ -53,6 +50,7 @@ pub sample-spec : {M : Type 1} → statement M
 sample-spec =
     tie.close
     (tie.spec
+    no-room-requires
     returns
     step-requires
     stable-bits-requires

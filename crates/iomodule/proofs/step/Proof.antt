@@ -3,11 +3,6 @@ use borrow.Author.Needs.{needs}
 use Rattle.iomodule.proofs.Laws.{stepped-law}
 use Rattle.iomodule.proofs.step.Statement.{statement}
 use Rattle.iomodule.proofs.step.Tie as tie
-use Rattle.iomodule.proofs.step.Reads as reads
-use Rattle.iomodule.proofs.step.Lts as lts
-use Rattle.inputs.proofs.sample.Reads as sample-reads
-use Rattle.iomodule.proofs.notice_due.Reads as notice-due-reads
-use Rattle.outputs.proofs.pulse_outputs.Reads as pulse-outputs-reads
 
 sample-requires : tie.Need-sample-requires
 sample-requires c κs = search needs

@@ -4,9 +4,6 @@ use mir.Facts.{toZ-ofZ}
 use Rattle.model.specs.Calls.{temperatureCall}
 use Rattle.iomodule.proofs.temperature.Statement.{statement}
 use Rattle.iomodule.proofs.temperature.Tie as tie
-use Rattle.iomodule.proofs.temperature.Reads as reads
-use Rattle.iomodule.proofs.temperature.Lts as lts
-use Rattle.iomodule.proofs.heated.Reads as heated-reads
 
 heated-requires : tie.Need-heated-requires
 heated-requires c κs = search needs

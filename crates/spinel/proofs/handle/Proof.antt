@@ -12,15 +12,15 @@ use Rattle.spinel.proofs.handle.Tie as tie
 spinel-refusal-requires : tie.Need-spinel-refusal-requires
 spinel-refusal-requires c κs = search needs
 
-empty-requires : tie.Need-empty-requires
-empty-requires c κs = search needs
+unheard-requires : tie.Need-unheard-requires
+unheard-requires c κs = search needs
 
 returns : tie.Need-returns
 unfolding spinelHandled
 returns c =
     let k = c .before .before in
     let a = k .before .before .before .args in
-    rw (c .empty .ensures) (ap handledOf (refused-law (k .spinel-refusal .result) (a .m) (spinelActed (now (a .frame)) (a .m)) (c .before .if1 .taken)) ∙ rw (k .spinel-refusal .ensures))
+    c .unheard .ensures ∙ ap handledOf (refused-law (k .spinel-refusal .result) (a .m) (spinelActed (now (a .frame)) (a .m)) (c .before .if1 .taken)) ∙ rw (k .spinel-refusal .ensures)
 
 act-requires : tie.Need-act-requires
 act-requires c κs = spinel-passes _ _ (sym (c .before .spinel-refusal .ensures) ∙ c .if1 .left) .least
@@ -33,4 +33,4 @@ returns-2 c =
 
 pub handle-spec : {M : Type 1} → statement M
 handle-spec =
-    tie.close (tie.spec spinel-refusal-requires empty-requires returns act-requires returns-2)
+    tie.close (tie.spec spinel-refusal-requires unheard-requires returns act-requires returns-2)
