@@ -3,7 +3,7 @@ ghost use mathlib.Core.Path.{_≡_};
 ghost use mathlib.Core.List.{map};
 ghost use Rattle.model.specs.declared.Line.{Line as LineOf};
 ghost use Rattle.model.specs.State.{line, permit};
-ghost use Rattle.model.specs.Refusals.{judged};
+ghost use Rattle.model.specs.Refusals.{refused, judged};
 ghost use Rattle.model.specs.Counters.{resetInputs, reset, givePermission, setPort, readPort, resetModule};
 ghost use Rattle.model.specs.Notice.{maskGiven, setNotice, readNotice};
 ghost use Rattle.octets.specs.Answers.{toldOf};
@@ -99,24 +99,25 @@ fn mask_given(d: &[u8]) -> u16
     octets::word_from(d, 1)
 }
 
+// A refusal leaves the notice.
+fn keep_notice(refusal: u8, notice: Notice) -> NoticeSet
+    ensures { λ r. ⌜ r ≡ noticeSetOf (refused refusal notice) ⌝ }
+{
+    NoticeSet { refusal, notice }
+}
+
 // 10H: the notice on, with its mask and the request's signature, or off.
 pub fn set_notice(signature: u8, d: &[u8], n: Notice) -> NoticeSet
     ensures { λ r. ⌜ r ≡ noticeSetOf (judged n (setNotice signature (now (d .entry)) n)) ⌝ }
 {
     let len = d.len();
     if (len != 1) & (len != 3) {
-        return NoticeSet {
-            refusal: 8,
-            notice: n,
-        };
+        return keep_notice(8, n);
     }
     let first = octets::at(d, 0);
     if first == 1 {
         if n.format != 0 {
-            return NoticeSet {
-                refusal: 11,
-                notice: n,
-            };
+            return keep_notice(11, n);
         }
         return NoticeSet {
             refusal: 0,
@@ -128,10 +129,7 @@ pub fn set_notice(signature: u8, d: &[u8], n: Notice) -> NoticeSet
         };
     }
     if (first != 0) | (len != 1) {
-        return NoticeSet {
-            refusal: 11,
-            notice: n,
-        };
+        return keep_notice(11, n);
     }
     NoticeSet {
         refusal: 0,
@@ -153,21 +151,22 @@ pub fn read_notice(d: &[u8], n: Notice) -> Told
     octets::tell(octets::push16(octets::push(octets::empty(), n.format), n.mask))
 }
 
+// A refusal leaves the port.
+fn keep_port(refusal: u8, port: Port) -> PortSet
+    ensures { λ r. ⌜ r ≡ portSetOf (refused refusal port) ⌝ }
+{
+    PortSet { refusal, port }
+}
+
 // E4H: the permission; to the universal address it is refused.
 pub fn give_permission(universal: bool, d: &[u8], p: Port) -> PortSet
     ensures { λ r. ⌜ r ≡ portSetOf (judged p (givePermission universal (now (d .entry)) p)) ⌝ }
 {
     if d.len() != 0 {
-        return PortSet {
-            refusal: 8,
-            port: p,
-        };
+        return keep_port(8, p);
     }
     if universal {
-        return PortSet {
-            refusal: 10,
-            port: p,
-        };
+        return keep_port(10, p);
     }
     PortSet {
         refusal: 0,
@@ -185,15 +184,19 @@ pub fn read_port(d: &[u8], p: Port) -> Told
     octets::tell(octets::push(octets::push(octets::empty(), p.address), p.speed))
 }
 
+// A refusal leaves the module.
+fn keep_module(refusal: u8, after: Module) -> ModuleSet
+    ensures { λ r. ⌜ r ≡ moduleSetOf (refused refusal after) ⌝ }
+{
+    ModuleSet { refusal, after }
+}
+
 // E3H: the reset.
 pub fn reset_module(d: &[u8], m: Module) -> ModuleSet
     ensures { λ r. ⌜ r ≡ moduleSetOf (judged m (resetModule (now (d .entry)) m)) ⌝ }
 {
     if d.len() != 0 {
-        return ModuleSet {
-            refusal: 8,
-            after: m,
-        };
+        return keep_module(8, m);
     }
     ModuleSet {
         refusal: 0,
@@ -206,24 +209,15 @@ pub fn set_port(permitted: bool, universal: bool, d: &[u8], m: Module) -> Module
     ensures { λ r. ⌜ r ≡ moduleSetOf (judged m (setPort permitted universal (now (d .entry)) m)) ⌝ }
 {
     if d.len() != 2 {
-        return ModuleSet {
-            refusal: 8,
-            after: m,
-        };
+        return keep_module(8, m);
     }
     if universal | !permitted {
-        return ModuleSet {
-            refusal: 10,
-            after: m,
-        };
+        return keep_module(10, m);
     }
     let address = octets::at(d, 0);
     let speed = octets::at(d, 1);
     if (0xFD < address) | (0x0B < speed) {
-        return ModuleSet {
-            refusal: 11,
-            after: m,
-        };
+        return keep_module(11, m);
     }
     let spinel = Port {
         address,

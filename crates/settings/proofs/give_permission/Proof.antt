@@ -9,13 +9,19 @@ use Rattle.settings.proofs.give_permission.Reads as reads
 use Rattle.settings.proofs.give_permission.Lts as lts
 use Rattle.settings.proofs.permitted.Reads as permitted-reads
 
+keep-port-requires : tie.Need-keep-port-requires
+keep-port-requires c κs = search needs
+
 returns : tie.Need-returns
 unfolding judged givePermission
-returns c = rw (ne-eqb _ _ (c .if1 .taken))
+returns c = rw (c .keep-port .ensures, ne-eqb _ _ (c .before .if1 .taken))
+
+keep-port-requires-2 : tie.Need-keep-port-requires-2
+keep-port-requires-2 c κs = search needs
 
 returns-2 : tie.Need-returns-2
 unfolding judged givePermission
-returns-2 c = rw (eq-eqb _ _ (c .before .if1 .left), c .if2 .taken)
+returns-2 c = rw (c .keep-port2 .ensures, eq-eqb _ _ (c .before .before .if1 .left), c .before .if2 .taken)
 
 permitted-requires : tie.Need-permitted-requires
 permitted-requires c κs = search needs
@@ -25,4 +31,4 @@ unfolding judged givePermission
 returns-3 c = rw (eq-eqb _ _ (c .before .before .if1 .left), c .before .if2 .left, c .permitted .ensures)
 
 pub give-permission-spec : {M : Type 1} → statement M
-give-permission-spec = tie.close (tie.spec returns returns-2 permitted-requires returns-3)
+give-permission-spec = tie.close (tie.spec keep-port-requires returns keep-port-requires-2 returns-2 permitted-requires returns-3)

@@ -9,9 +9,12 @@ use Rattle.settings.proofs.reset_module.Reads as reads
 use Rattle.settings.proofs.reset_module.Lts as lts
 use Rattle.settings.proofs.reset_state.Reads as reset-state-reads
 
+keep-module-requires : tie.Need-keep-module-requires
+keep-module-requires c κs = search needs
+
 returns : tie.Need-returns
 unfolding judged resetModule
-returns c = rw (ne-eqb _ _ (c .if1 .taken))
+returns c = rw (c .keep-module .ensures, ne-eqb _ _ (c .before .if1 .taken))
 
 reset-state-requires : tie.Need-reset-state-requires
 reset-state-requires c κs = search needs
@@ -21,4 +24,4 @@ unfolding judged resetModule
 returns-2 c = rw (eq-eqb _ _ (c .before .if1 .left), c .reset-state .ensures)
 
 pub reset-module-spec : {M : Type 1} → statement M
-reset-module-spec = tie.close (tie.spec returns reset-state-requires returns-2)
+reset-module-spec = tie.close (tie.spec keep-module-requires returns reset-state-requires returns-2)

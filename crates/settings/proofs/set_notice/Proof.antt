@@ -15,22 +15,28 @@ use Rattle.settings.proofs.set_notice.Lts as lts
 use Rattle.octets.proofs.at.Reads as at-reads
 use Rattle.settings.proofs.mask_given.Reads as mask-given-reads
 
+keep-notice-requires : tie.Need-keep-notice-requires
+keep-notice-requires c κs = search needs
+
 returns : tie.Need-returns
 unfolding judged setNotice
 returns c =
-    let d = now (c .before .before .args .d) in
-    rw (not-or (eqb (length d) 1) (eqb (length d) 3), c .if1 .taken)
+    let d = now (c .before .before .before .args .d) in
+    rw (c .keep-notice .ensures, not-or (eqb (length d) 1) (eqb (length d) 3), c .before .if1 .taken)
 
 at-requires : tie.Need-at-requires
 at-requires c κs = search needs
 
+keep-notice-requires-2 : tie.Need-keep-notice-requires-2
+keep-notice-requires-2 c κs = search needs
+
 returns-2 : tie.Need-returns-2
 unfolding judged setNotice
 returns-2 c =
-    let got = c .before .before .before in
+    let got = c .before .before .before .before in
     let d = now (got .before .before .before .args .d) in
     let fits = got .before .if1 .left in
-    rw (not-or (eqb (length d) 1) (eqb (length d) 3), fits, eq-eqb (getD d 0 0) 1 (sym (got .at .ensures) ∙ c .before .before .if2 .taken), ne-eqb _ _ (c .if3 .taken))
+    rw (c .keep-notice2 .ensures, not-or (eqb (length d) 1) (eqb (length d) 3), fits, eq-eqb (getD d 0 0) 1 (sym (got .at .ensures) ∙ c .before .before .before .if2 .taken), ne-eqb _ _ (c .before .if3 .taken))
 
 mask-given-requires : tie.Need-mask-given-requires
 mask-given-requires c κs = search needs
@@ -43,13 +49,16 @@ returns-3 c =
     let fits = got .before .if1 .left in
     rw (not-or (eqb (length d) 1) (eqb (length d) 3), fits, eq-eqb (getD d 0 0) 1 (sym (got .at .ensures) ∙ c .before .before .before .if2 .taken), eq-eqb _ _ (c .before .if3 .left), c .mask-given .ensures)
 
+keep-notice-requires-3 : tie.Need-keep-notice-requires-3
+keep-notice-requires-3 c κs = search needs
+
 returns-4 : tie.Need-returns-4
 unfolding judged setNotice
 returns-4 c =
-    let got = c .before .before in
+    let got = c .before .before .before in
     let d = now (got .before .before .before .args .d) in
     let fits = got .before .if1 .left in
-    rw (not-or (eqb (length d) 1) (eqb (length d) 3), fits, ne-eqb (getD d 0 0) 1 (λ e. c .before .if2 .left (got .at .ensures ∙ e)), not-and (eqb (getD d 0 0) 0) (eqb (length d) 1), rw (got .at .ensures) at (c .if4 .taken))
+    rw (c .keep-notice3 .ensures, not-or (eqb (length d) 1) (eqb (length d) 3), fits, ne-eqb (getD d 0 0) 1 (λ e. c .before .before .if2 .left (got .at .ensures ∙ e)), not-and (eqb (getD d 0 0) 0) (eqb (length d) 1), rw (got .at .ensures) at (c .before .if4 .taken))
 
 returns-5 : tie.Need-returns-5
 unfolding judged setNotice
@@ -62,4 +71,4 @@ returns-5 c =
 pub set-notice-spec : {M : Type 1} → statement M
 set-notice-spec =
     tie.close
-    (tie.spec returns at-requires returns-2 mask-given-requires returns-3 returns-4 returns-5)
+    (tie.spec keep-notice-requires returns at-requires keep-notice-requires-2 returns-2 mask-given-requires returns-3 keep-notice-requires-3 returns-4 returns-5)
