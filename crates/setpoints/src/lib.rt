@@ -1,12 +1,11 @@
 // The thermostats' settings over Spinel, 1AH and 1BH, and the reading, 51H.
 ghost use mathlib.Core.Path.{_≡_};
 ghost use mathlib.Core.List.{[], foldl, flatMap};
-ghost use Prim.Native.Nat.{_+_, _-_, _≤_};
+ghost use Prim.Native.Nat.{_+_, _≤_};
 ghost use lib.ListN.{length, getD};
 ghost use Rattle.lists.specs.Chunks.{chunks};
 ghost use Rattle.lists.specs.Data.{dataOf, extended};
 ghost use Rattle.lists.specs.Tests.{all};
-ghost use Rattle.model.specs.State.{freshThermostat};
 ghost use Rattle.model.specs.Refusals.{judged};
 ghost use Rattle.model.specs.Temperature.{thermostatFits, groupThermostat, groupFits, setGroup, setThermostats, groupShown, readThermostats, readingShown, readTemperature};
 ghost use Rattle.octets.specs.Answers.{toldOf};
@@ -121,23 +120,6 @@ pub fn set_thermostats(d: &[u8], hs: [Thermostat; 16]) -> ThermostatsSet
     }
 }
 
-// The thermostat of output n, a fresh one where there is none.
-fn thermostat_of(hs: [Thermostat; 16], n: u8) -> Thermostat
-    ensures { λ r. ⌜ r ≡ getD hs (n - 1) freshThermostat ⌝ }
-{
-    let k = octets::index_of(n);
-    if k < 16 {
-        return hs[k];
-    }
-    Thermostat {
-        flags: 0,
-        tempx: 0,
-        tempy: 0,
-        time: Seconds(0),
-        err: 0,
-    }
-}
-
 // A group after a reply: output, flags, TEMPx, TEMPy, TIME, ERR.
 fn show_settings(reply: Data, n: u8, h: Thermostat) -> Data
     ensures { λ r. ⌜ r ≡ extended reply (settingsShown n h) ⌝ }
@@ -153,7 +135,7 @@ fn show_settings(reply: Data, n: u8, h: Thermostat) -> Data
 fn show_group(reply: Data, hs: [Thermostat; 16], n: u8) -> Data
     ensures { λ r. ⌜ r ≡ extended reply (groupShown hs n) ⌝ }
 {
-    let h = thermostat_of(hs, n);
+    let h = relays::thermostat_at(hs, n);
     show_settings(reply, n, h)
 }
 
