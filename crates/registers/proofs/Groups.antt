@@ -1,0 +1,92 @@
+-- Words of a group: a part of a list, and where a group begins. Assumes nothing.
+use Prim.Native.Nat.{ℕ, zero, suc, _+_, _-_, _*_, _<_, _≤_}
+use native.Mathlib.Omega.{arith}
+use native.Mathlib.Nat.{le-of-eq, zero-add, sub-zero}
+use mathlib.Core.Path.{_≡_, refl, sym, ap, _∙_}
+use mathlib.Core.Bool.{Bool, true, false}
+use mathlib.Core.List.{List, [], _∷_, _++_, map, flatMap}
+use lib.Dec.{ltb}
+use lib.ListN.{length, getD, take, drop, length-drop, List·getD-map}
+use lib.Seq.{getD-take, getD-drop, length-take-le}
+use borrow.Author.Tests.{ltb-true, ltb-false, lt-ltb, le-ltb}
+use Rattle.lists.specs.Data.{dataOf, extended, pushed}
+use Rattle.lists.specs.declared.Data.{Data}
+use Rattle.lists.specs.Numbers.{bytes}
+use Rattle.lists.proofs.DataLaws.{push-law, extend-law}
+use Rattle.lists.proofs.NumberLaws.{length-bytes}
+use Rattle.model.specs.declared.Output.{Output}
+use Rattle.model.specs.declared.Reading.{Reading}
+use Rattle.model.specs.declared.Reading.the-variants.{Valid, Fault}
+use Rattle.model.specs.State.{freshOutput}
+use Rattle.model.specs.Outputs.{remaining}
+use Rattle.model.specs.Refusals.{judged, accepting, refuse9}
+use Rattle.model.specs.Temperature.{readingWords}
+use Rattle.model.specs.Registers.{outputWord, readWords}
+use Rattle.model.proofs.Short.{flat-most}
+use Rattle.octets.specs.declared.Told.{Told}
+use Rattle.octets.specs.Answers.{toldOf}
+use Rattle.registers.specs.Answers.{wordsTold}
+
+-- n of some words from place k on
+module _ (ws : List ℕ) (k n : ℕ) (fits : k + n ≤ length ws) where
+  pub part-length : length (take n (drop k ws)) ≡ n
+  part-length = length-take-le n (drop k ws) (simp length-drop (omega arith))
+
+  pub part-word : (i : ℕ) → i < n → getD ws (k + i) 0 ≡ getD (take n (drop k ws)) i 0
+  part-word i h = sym (getD-take n (drop k ws) i 0 h ∙ getD-drop k ws i 0)
+
+-- a byte count and at most sixteen words fit a reply
+pub words-data : (b : ℕ) (ws : List ℕ) → length ws ≤ 16 → extended (pushed (dataOf []) b) (flatMap (bytes 2) ws) ≡ dataOf (b ∷ flatMap (bytes 2) ws)
+words-data b ws h =
+    ap (λ (d : Data). extended d (flatMap (bytes 2) ws)) (push-law [] b (omega arith))
+    ∙ extend-law (flatMap (bytes 2) ws) (b ∷ []) (omega (arith, flat-most 2 (bytes 2) (λ v. le-of-eq (length-bytes 2 v)) 16 ws h))
+
+-- an output's word is the word of its output
+pub word-of : (os : List Output) (i : ℕ) → getD (map outputWord os) i 0 ≡ outputWord (getD os i freshOutput)
+unfolding outputWord remaining
+word-of os i = List·getD-map outputWord os i freshOutput
+
+-- a part that ends before the second list begins
+part-first : (xs ys : List ℕ) (k n : ℕ) → k + n ≤ length xs → take n (drop k (xs ++ ys)) ≡ take n (drop k xs)
+part-first [] ys zero zero h = refl
+part-first [] ys zero (suc n) h = absurd (let z : ⊥ = omega arith in z)
+part-first [] ys (suc k) n h = absurd (let z : ⊥ = omega arith in z)
+part-first (x ∷ xs) ys zero zero h = refl
+part-first (x ∷ xs) ys zero (suc n) h = ap (x ∷_) (part-first xs ys zero n (omega arith))
+part-first (x ∷ xs) ys (suc k) n h = part-first xs ys k n (omega arith)
+
+-- the places of a group that begins at 0
+words-here : {P : Type 0} (ws : List ℕ) (k n : ℕ) (p : P) → readWords 0 ws k n p ≡ refuse9 (ltb (length ws) (k + n)) (accepting p (2 * n ∷ flatMap (bytes 2) (take n (drop k ws))))
+unfolding readWords
+words-here ws k n p = rw (zero-add (length ws), sub-zero k)
+
+-- the group is the first of two lists
+pub words-told : (ws xs ys : List ℕ) (count k n : ℕ) → ws ≡ xs ++ ys → count ≡ length xs → wordsTold ws count k n ≡ toldOf {P = Unit {0}} (judged tt (readWords 0 xs k n tt))
+unfolding wordsTold judged
+words-told ws xs ys count k n e q = rw (e, q, words-here xs k n (tt {0})) (go (ltb (length xs) (k + n)) refl)
+  where
+    answer : Bool → List ℕ → Told
+    answer t part = toldOf {P = Unit {0}} (judged tt (refuse9 t (accepting tt (2 * n ∷ flatMap (bytes 2) part))))
+
+    go : (t : Bool) → ltb (length xs) (k + n) ≡ t → answer t (take n (drop k (xs ++ ys))) ≡ answer t (take n (drop k xs))
+    go true e = refl
+    go false e = ap (answer false) (part-first xs ys k n (ltb-false (length xs) (k + n) e))
+
+-- a reading has four words
+pub reading-four : (r : Reading) → 4 ≡ length (readingWords r)
+unfolding readingWords
+reading-four (Valid t x) = refl
+reading-four Fault = refl
+
+-- a test that only depends on the difference
+place-test : (first l a n : ℕ) → first ≤ a → ltb (first + l) (a + n) ≡ ltb l (a - first + n)
+place-test first l a n h = go (ltb l (a - first + n)) refl
+  where
+    go : (t : Bool) → ltb l (a - first + n) ≡ t → ltb (first + l) (a + n) ≡ t
+    go true e = lt-ltb (first + l) (a + n) (omega (arith, ltb-true l (a - first + n) e))
+    go false e = le-ltb (first + l) (a + n) (omega (arith, ltb-false l (a - first + n) e))
+
+-- a register's place in a group that begins at `first`
+pub words-from : {P : Type 0} (first : ℕ) (ws : List ℕ) (a n : ℕ) (p : P) → first ≤ a → readWords first ws a n p ≡ readWords 0 ws (a - first) n p
+unfolding readWords
+words-from first ws a n p h = rw (place-test first (length ws) a n h) (sym (words-here ws (a - first) n p))

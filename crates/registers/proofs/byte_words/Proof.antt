@@ -1,0 +1,71 @@
+-- `registers::byte_words` meets its contract. The loop's invariant: the bytes before `i`, then zeros. Assumes nothing.
+use borrow.Author.Needs.{needs}
+use native.Mathlib.Omega.{arith}
+use native.Mathlib.Nat.{le-of-eq}
+use Prim.Native.Nat.{_-_, _≤_}
+use mathlib.Core.Path.{_≡_, refl, _∙_}
+use mathlib.Core.List.{_++_, append-nil}
+use lib.ListN.{length, take, drop, replicate}
+use lib.Seq.{take-all}
+use Rattle.lists.proofs.DataLaws.{over-turn}
+use Rattle.registers.proofs.byte_words.Statement.{statement}
+use Rattle.registers.proofs.byte_words.Tie as tie
+
+abbrev Inv-loop : tie.InvT-loop
+Inv-loop bs words₀ i₀ words i = (i ≤ 16) × (words ≡ take i bs ++ drop i (replicate 16 0))
+
+abbrev μ-loop : tie.MeasureT-loop
+μ-loop bs words₀ i₀ words i = 16 - i
+
+long : (c : tie.Start Inv-loop μ-loop) → length (c .args .bs) ≡ 16
+long c = search needs
+
+loop-holds : tie.Need-loop-holds Inv-loop μ-loop
+loop-holds c = (omega arith, refl)
+
+byte-at-requires : tie.Need-byte-at-requires Inv-loop μ-loop
+byte-at-requires c κs = search needs
+
+cast-words : tie.Need-cast-words Inv-loop μ-loop
+cast-words c = search needs
+
+mul-words : tie.Need-mul-words Inv-loop μ-loop
+mul-words c = omega arith
+
+array-write-words : tie.Need-array-write-words Inv-loop μ-loop
+array-write-words c = omega arith
+
+add-i : tie.Need-add-i Inv-loop μ-loop
+add-i c = omega arith
+
+loop-less : tie.Need-loop-less Inv-loop μ-loop
+loop-less c = omega arith
+
+loop-again : tie.Need-loop-again Inv-loop μ-loop
+loop-again c =
+    let l = c .before .before in
+    let bs = l .before .args .bs in
+    let t = c .before .loop-test .taken in
+    (omega arith, rw (c .byte-at .ensures, l .loop .inv .1) (over-turn bs (replicate 16 0) (l .loop .i) (rw (long (l .before)) t) t))
+
+returns : tie.Need-returns Inv-loop μ-loop
+returns c =
+    let bs = c .before .before .args .bs in
+    let e : c .before .loop .i ≡ 16 = omega arith in
+    c .before .loop .inv .1 ∙ rw e (append-nil (take 16 bs) ∙ take-all 16 bs (le-of-eq (long (c .before .before))))
+
+pub byte-words-spec : {M : Type 1} → statement M
+byte-words-spec =
+    tie.close
+    (tie.spec
+    Inv-loop
+    μ-loop
+    loop-holds
+    byte-at-requires
+    cast-words
+    mul-words
+    array-write-words
+    add-i
+    loop-less
+    loop-again
+    returns)

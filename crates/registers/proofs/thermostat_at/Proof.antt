@@ -1,0 +1,29 @@
+-- `registers::thermostat_at` meets its contract: past the end `getD` gives its default. Assumes nothing.
+use borrow.Author.Needs.{needs}
+use native.Mathlib.Omega.{arith}
+use mathlib.Core.Path.{_≡_, sym}
+use lib.ListN.{length, List·getD-eq-default}
+use Rattle.model.specs.State.{freshThermostat}
+use borrow.Author.Needs.{needs}
+use Rattle.registers.proofs.thermostat_at.Statement.{statement}
+use Rattle.registers.proofs.thermostat_at.Tie as tie
+
+long : (c : tie.Start) → length (c .args .t1) ≡ 16
+long c = search needs
+
+mul-h : tie.Need-mul-h
+mul-h c = search needs
+
+array-copy-out-h : tie.Need-array-copy-out-h
+array-copy-out-h c = search needs
+
+returns : tie.Need-returns
+returns c = search needs
+
+returns-2 : tie.Need-returns-2
+returns-2 c =
+    let s = c .before in
+    sym (List·getD-eq-default (s .args .t1) freshThermostat (rw (long s) (omega arith)))
+
+pub thermostat-at-spec : {M : Type 1} → statement M
+thermostat-at-spec = tie.close (tie.spec mul-h array-copy-out-h returns returns-2)

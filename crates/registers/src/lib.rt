@@ -1,0 +1,246 @@
+// The register groups that Modbus reads: words, thermostats, coils and inputs.
+ghost use mathlib.Core.Path.{_≡_};
+ghost use mathlib.Core.List.{_∷_, map, flatMap};
+ghost use Prim.Native.Nat.{_+_, _-_, _*_, _^_, _≤_};
+ghost use lib.ListN.{getD, take, drop};
+ghost use Rattle.lists.specs.Data.{dataOf};
+ghost use Rattle.lists.specs.Numbers.{bytes};
+ghost use Rattle.model.specs.State.{freshThermostat};
+ghost use Rattle.model.specs.Refusals.{judged};
+ghost use Rattle.model.specs.Temperature.{readingWords};
+ghost use Rattle.model.specs.Registers.{readWords, portWords, outputWord, readThermostat};
+ghost use Rattle.octets.specs.Answers.{toldOf};
+ghost use Rattle.registers.specs.Answers.{wordsTold, readingList, thermostatList, partOf, bitsShown, bitsTold};
+use lists::Data;
+use model::Output;
+use model::Port;
+use model::Reading;
+use model::Seconds;
+use model::Thermostat;
+use octets::Told;
+
+// Words ----------------------------------------------------------------------------------
+
+// A byte count, then n words from place k on.
+fn show_words(words: [u16; 16], k: usize, n: usize) -> Data
+    requires { ⌜ k + n ≤ 16 ⌝ }
+    ensures { λ r. ⌜ r ≡ dataOf (2 * n ∷ flatMap (bytes 2) (take n (drop k words))) ⌝ }
+{
+    let count = (2 * n) as u8;
+    let mut reply = octets::push(octets::empty(), count);
+    let mut i = 0;
+    while i < n {
+        let v = octets::word_at(words, k + i);
+        reply = octets::push16(reply, v);
+        i += 1;
+    }
+    reply
+}
+
+// n words from place k on, of a group that holds the first `count` of these.
+fn tell_words(words: [u16; 16], count: u16, k: u16, n: u16) -> Told
+    requires { ⌜ count ≤ 16 ⌝ }
+    ensures { λ r. ⌜ r ≡ wordsTold words count k n ⌝ }
+{
+    if (count as u32) < (k as u32) + (n as u32) {
+        return octets::refuse(9);
+    }
+    octets::tell(show_words(words, k as usize, n as usize))
+}
+
+// n registers from `a` on, of sixteen words that begin at register `first`.
+pub fn read_words(first: u16, words: [u16; 16], a: u16, n: u16) -> Told
+    ensures { λ r. ⌜ r ≡ toldOf {P = Unit {0}} (judged tt (readWords 0 words (a - first) n tt)) ⌝ }
+{
+    tell_words(words, 16, octets::less(a, first), n)
+}
+
+// Sixteen bytes as words.
+fn byte_words(bs: [u8; 16]) -> [u16; 16]
+    ensures { λ r. ⌜ r ≡ bs ⌝ }
+{
+    let mut words = [0u16; 16];
+    let mut i = 0usize;
+    while i < 16 {
+        let b = octets::byte_at(bs, i);
+        words[i] = b as u16;
+        i += 1;
+    }
+    words
+}
+
+// 300 to 315: modes, two bytes each.
+pub fn read_modes(ms: [u8; 16], a: u16, n: u16) -> Told
+    ensures { λ r. ⌜ r ≡ toldOf {P = Unit {0}} (judged tt (readWords 0 ms (a - 300) n tt)) ⌝ }
+{
+    read_words(300, byte_words(ms), a, n)
+}
+
+// An output's state and remaining time.
+pub fn output_word(o: Output) -> u16
+    ensures { λ r. ⌜ r ≡ outputWord o ⌝ }
+{
+    let time = outputs::remaining_time(o.left) as u16;
+    if o.on { 0xFF00 + time } else { time }
+}
+
+// The same of each output.
+pub fn output_words(os: [Output; 16]) -> [u16; 16]
+    ensures { λ r. ⌜ r ≡ map outputWord os ⌝ }
+{
+    let mut words = [0u16; 16];
+    let mut i = 0usize;
+    while i < 16 {
+        let o = os[i];
+        let v = output_word(o);
+        words[i] = v;
+        i += 1;
+    }
+    words
+}
+
+// 500 to 515: outputs.
+pub fn read_outputs(os: [Output; 16], a: u16, n: u16) -> Told
+    ensures { λ r. ⌜ r ≡ toldOf {P = Unit {0}} (judged tt (readWords 0 (map outputWord os) (a - 500) n tt)) ⌝ }
+{
+    read_words(500, output_words(os), a, n)
+}
+
+// 1 to 2: a port's address and speed.
+pub fn read_port(p: Port, a: u16, n: u16) -> Told
+    ensures { λ r. ⌜ r ≡ toldOf {P = Unit {0}} (judged tt (readWords 0 (portWords p) (a - 1) n tt)) ⌝ }
+{
+    let mut words = [0u16; 16];
+    words[0] = p.address as u16;
+    words[1] = p.speed as u16;
+    tell_words(words, 2, octets::less(a, 1), n)
+}
+
+// Status, tenths and float of a reading, and twelve words that do not count.
+fn reading_words(reading: Reading) -> [u16; 16]
+    ensures { λ r. ⌜ r ≡ readingList reading ⌝ }
+{
+    let mut words = [0u16; 16];
+    match reading {
+        Reading::Valid(t, x) => {
+            let w = octets::float_words(x);
+            words[1] = octets::pattern_of(t);
+            words[2] = w.high;
+            words[3] = w.low;
+            words
+        }
+        Reading::Fault => {
+            words[0] = 1;
+            words
+        }
+    }
+}
+
+// Input registers 0 to 3: the reading.
+pub fn read_input(reading: Reading, a: u16, n: u16) -> Told
+    ensures { λ r. ⌜ r ≡ toldOf {P = Unit {0}} (judged tt (readWords 0 (readingWords reading) a n tt)) ⌝ }
+{
+    tell_words(reading_words(reading), 4, a, n)
+}
+
+// Thermostats ----------------------------------------------------------------------------
+
+// The thermostat of a place, a fresh one where there is none.
+fn thermostat_at(hs: [Thermostat; 16], k: usize) -> Thermostat
+    ensures { λ r. ⌜ r ≡ getD hs k freshThermostat ⌝ }
+{
+    if k < 16 {
+        let h = hs[k];
+        return h;
+    }
+    Thermostat {
+        flags: 0,
+        tempx: 0,
+        tempy: 0,
+        time: Seconds(0),
+        err: 0,
+    }
+}
+
+// Its four words, and twelve that do not count.
+fn thermostat_words(h: Thermostat) -> [u16; 16]
+    ensures { λ r. ⌜ r ≡ thermostatList h ⌝ }
+{
+    let s = h.time;
+    let x = octets::pattern_of(h.tempx);
+    let y = octets::pattern_of(h.tempy);
+    let last = octets::be16(s.0, h.err);
+    let mut words = [0u16; 16];
+    words[0] = h.flags as u16;
+    words[1] = x;
+    words[2] = y;
+    words[3] = last;
+    words
+}
+
+// 600 to 663: one thermostat by its four registers.
+pub fn read_thermostat(hs: [Thermostat; 16], a: u16, n: u16) -> Told
+    ensures { λ r. ⌜ r ≡ toldOf {P = Unit {0}} (judged tt (readThermostat hs a n tt)) ⌝ }
+{
+    let k = octets::less(a, 600);
+    if n != 4 {
+        return octets::refuse(9);
+    }
+    if k % 4 != 0 {
+        return octets::refuse(9);
+    }
+    let h = thermostat_at(hs, (k / 4) as usize);
+    octets::tell(show_words(thermostat_words(h), 0, 4))
+}
+
+// Coils and inputs -----------------------------------------------------------------------
+
+// A power of 2.
+fn power(n: u16) -> u32
+    requires { ⌜ n ≤ 16 ⌝ }
+    ensures { λ r. ⌜ r ≡ 2 ^ n ⌝ }
+{
+    let mut p: u32 = 1;
+    let mut i = 0u16;
+    while i < n {
+        p = p * 2;
+        i += 1;
+    }
+    p
+}
+
+// n bits of a number from bit k on.
+fn bits_part(bits: u16, k: u16, n: u16) -> u16
+    requires { ⌜ k + n ≤ 16 ⌝ }
+    ensures { λ r. ⌜ r ≡ partOf bits k n ⌝ }
+{
+    let low = power(k);
+    let size = power(n);
+    ((bits as u32) / low % size) as u16
+}
+
+// How many bytes n bits take, then these bytes, the lowest first.
+fn show_bits(v: u16, n: u16) -> Data
+    requires { ⌜ n ≤ 16 ⌝ }
+    ensures { λ r. ⌜ r ≡ dataOf (bitsShown v n) ⌝ }
+{
+    let head = octets::push(octets::empty(), ((n + 7) / 8) as u8);
+    if n == 0 {
+        return head;
+    }
+    let first = octets::push(head, octets::low_byte(v));
+    if n <= 8 {
+        return first;
+    }
+    octets::push(first, octets::high_byte(v))
+}
+
+// n of sixteen coils or inputs from place k on; their states are the bits, the first lowest.
+pub fn read_bits(bits: u16, k: u16, n: u16) -> Told
+    ensures { λ r. ⌜ r ≡ bitsTold bits k n ⌝ }
+{
+    if 16 < (k as u32) + (n as u32) {
+        return octets::refuse(9);
+    }
+    octets::tell(show_bits(bits_part(bits, k, n), n))
+}

@@ -1,0 +1,9 @@
+pub mod Leading
+pub mod Sames
+pub mod Firsts
+pub mod Digits
+pub mod Splits
+pub mod Bodies
+pub mod Calls
+pub mod Frames
+pub mod Examples

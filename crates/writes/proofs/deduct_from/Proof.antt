@@ -1,0 +1,104 @@
+-- `writes::deduct_from` meets its contract. The loop's invariant: the values left, on the copy so far, come to the whole. Assumes nothing.
+use native.Mathlib.Omega.{arith}
+use Prim.Native.Nat.{_≤_, _-_}
+use mathlib.Core.Path.{_≡_, refl, sym, _∙_}
+use denote.Ref.{now}
+use lib.ListN.{length, drop}
+use borrow.Author.Tests.{not-true, not-false}
+use Rattle.lists.specs.Entries.{numbered}
+use Rattle.lists.proofs.Walks.{turn-goes, turn-stops, turn-ends}
+use Rattle.model.specs.Counters.{deductible, deductOne}
+use Rattle.model.specs.Modbus.{words}
+use Rattle.counters.proofs.Deductions.{deducted, notDeducted, deducting, deduct-walk}
+use Rattle.writes.proofs.Words.{numbered-first, numbered-none, deductible-most}
+use Rattle.writes.proofs.deduct_from.Statement.{statement}
+use Rattle.writes.proofs.deduct_from.Tie as tie
+
+abbrev Inv-loop : tie.InvT-loop
+Inv-loop first d cs copy₀ n₀ i₀ copy n i = (i ≤ length d) × (deducting cs copy (numbered n (words (drop i d))) ≡ deducting cs cs (numbered first (words d)))
+
+abbrev μ-loop : tie.MeasureT-loop
+μ-loop first d cs copy₀ n₀ i₀ copy n i = length d - i
+
+loop-holds : tie.Need-loop-holds Inv-loop μ-loop
+loop-holds c = (omega arith, refl)
+
+sub-loop : tie.Need-sub-loop Inv-loop μ-loop
+sub-loop c = omega arith
+
+shared-slice-read-be16 : tie.Need-shared-slice-read-be16 Inv-loop μ-loop
+shared-slice-read-be16 c = omega arith
+
+add-be16 : tie.Need-add-be16 Inv-loop μ-loop
+add-be16 c = omega arith
+
+shared-slice-read-be16-2 : tie.Need-shared-slice-read-be16-2 Inv-loop μ-loop
+shared-slice-read-be16-2 c = omega arith
+
+be16-requires : tie.Need-be16-requires Inv-loop μ-loop
+be16-requires c κs = tt
+
+fits-at-requires : tie.Need-fits-at-requires Inv-loop μ-loop
+fits-at-requires c κs = tt
+
+returns : tie.Need-returns Inv-loop μ-loop
+returns c =
+    let f = c .before in
+    let at = f .before .before .before .before .before in
+    let from = at .before .before .args in
+    let over = rw (f .before .be16 .ensures) at (sym (f .fits-at .ensures) ∙ not-true _ (c .if1 .taken)) in
+    turn-stops deductible deductOne deducted (notDeducted (from .cs)) (at .loop .copy) _ _ _ (numbered-first (now (from .d)) (at .loop .i) (at .loop .n) (omega arith)) over
+    ∙ at .loop .inv .1
+    ∙ deduct-walk (from .cs) (numbered (from .first) (words (now (from .d))))
+
+deduct-at-requires : tie.Need-deduct-at-requires Inv-loop μ-loop
+deduct-at-requires c κs = tt
+
+add-n : tie.Need-add-n Inv-loop μ-loop
+add-n c =
+    let f = c .before .before in
+    let at = f .before .before .before .before .before in
+    omega (arith, deductible-most (at .loop .copy) (at .loop .n) _ (sym (f .fits-at .ensures) ∙ not-false _ (c .before .if1 .left)))
+
+add-i : tie.Need-add-i Inv-loop μ-loop
+add-i c = omega arith
+
+loop-less : tie.Need-loop-less Inv-loop μ-loop
+loop-less c = omega arith
+
+loop-again : tie.Need-loop-again Inv-loop μ-loop
+loop-again c =
+    let f = c .before .before in
+    let at = f .before .before .before .before .before in
+    let from = at .before .before .args in
+    let fit = rw (f .before .be16 .ensures) at (sym (f .fits-at .ensures) ∙ not-false _ (c .before .if1 .left)) in
+    (omega arith, rw (c .deduct-at .ensures, f .before .be16 .ensures) (turn-goes deductible deductOne deducted (notDeducted (from .cs)) (at .loop .copy) _ _ _ (numbered-first (now (from .d)) (at .loop .i) (at .loop .n) (omega arith)) fit ∙ at .loop .inv .1))
+
+returns-2 : tie.Need-returns-2 Inv-loop μ-loop
+returns-2 c =
+    let at = c .before in
+    let from = at .before .before .args in
+    turn-ends deductible deductOne deducted (notDeducted (from .cs)) (at .loop .copy) _ (numbered-none (now (from .d)) (at .loop .i) (at .loop .n) (omega arith))
+    ∙ at .loop .inv .1
+    ∙ deduct-walk (from .cs) (numbered (from .first) (words (now (from .d))))
+
+pub deduct-from-spec : {M : Type 1} → statement M
+deduct-from-spec =
+    tie.close
+    (tie.spec
+    Inv-loop
+    μ-loop
+    loop-holds
+    sub-loop
+    shared-slice-read-be16
+    add-be16
+    shared-slice-read-be16-2
+    be16-requires
+    fits-at-requires
+    returns
+    deduct-at-requires
+    add-n
+    add-i
+    loop-less
+    loop-again
+    returns-2)

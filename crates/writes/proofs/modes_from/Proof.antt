@@ -1,0 +1,111 @@
+-- `writes::modes_from` meets its contract. The loop's invariant: the values left, on the copy so far, come to the whole. Assumes nothing.
+use native.Mathlib.Omega.{arith}
+use Prim.Native.Nat.{_≤_, _-_}
+use mathlib.Core.Path.{_≡_, refl, sym, _∙_}
+use denote.Ref.{now}
+use lib.ListN.{length, drop}
+use borrow.Author.Tests.{not-true, not-false}
+use Rattle.lists.specs.Entries.{numbered}
+use Rattle.lists.proofs.Walks.{turn-goes, turn-stops, turn-ends}
+use Rattle.model.specs.Counters.{setMode}
+use Rattle.model.specs.Modbus.{words}
+use Rattle.writes.proofs.Words.{numbered-first, numbered-none}
+use Rattle.writes.proofs.Modes.{settable-number, settable-mode, settableOn, moded, notModed, setting, modes-walk}
+use Rattle.writes.proofs.modes_from.Statement.{statement}
+use Rattle.writes.proofs.modes_from.Tie as tie
+
+abbrev Inv-loop : tie.InvT-loop
+Inv-loop first d ms copy₀ n₀ i₀ copy n i = (i ≤ length d) × (setting ms copy (numbered n (words (drop i d))) ≡ setting ms ms (numbered first (words d)))
+
+abbrev μ-loop : tie.MeasureT-loop
+μ-loop first d ms copy₀ n₀ i₀ copy n i = length d - i
+
+loop-holds : tie.Need-loop-holds Inv-loop μ-loop
+loop-holds c = (omega arith, refl)
+
+sub-loop : tie.Need-sub-loop Inv-loop μ-loop
+sub-loop c = omega arith
+
+shared-slice-read-be16 : tie.Need-shared-slice-read-be16 Inv-loop μ-loop
+shared-slice-read-be16 c = omega arith
+
+add-be16 : tie.Need-add-be16 Inv-loop μ-loop
+add-be16 c = omega arith
+
+shared-slice-read-be16-2 : tie.Need-shared-slice-read-be16-2 Inv-loop μ-loop
+shared-slice-read-be16-2 c = omega arith
+
+be16-requires : tie.Need-be16-requires Inv-loop μ-loop
+be16-requires c κs = tt
+
+mode-settable-requires : tie.Need-mode-settable-requires Inv-loop μ-loop
+mode-settable-requires c κs = tt
+
+returns : tie.Need-returns Inv-loop μ-loop
+returns c =
+    let f = c .before in
+    let at = f .before .before .before .before .before in
+    let from = at .before .before .args in
+    let bad = rw (f .before .be16 .ensures) at (sym (f .mode-settable .ensures) ∙ not-true _ (c .if1 .taken)) in
+    turn-stops settableOn setMode moded (notModed (from .ms)) (at .loop .copy) _ _ _ (numbered-first (now (from .d)) (at .loop .i) (at .loop .n) (omega arith)) bad
+    ∙ at .loop .inv .1
+    ∙ modes-walk (from .ms) (numbered (from .first) (words (now (from .d))))
+
+cast-set-mode-at : tie.Need-cast-set-mode-at Inv-loop μ-loop
+cast-set-mode-at c =
+    let f = c .before in
+    let at = f .before .before .before .before .before in
+    omega (arith, settable-mode (at .loop .n) _ (sym (f .mode-settable .ensures) ∙ not-false _ (c .if1 .left)))
+
+set-mode-at-requires : tie.Need-set-mode-at-requires Inv-loop μ-loop
+set-mode-at-requires c κs = tt
+
+add-n : tie.Need-add-n Inv-loop μ-loop
+add-n c =
+    let f = c .before .before in
+    let at = f .before .before .before .before .before in
+    omega (arith, settable-number (at .loop .n) _ (sym (f .mode-settable .ensures) ∙ not-false _ (c .before .if1 .left)))
+
+add-i : tie.Need-add-i Inv-loop μ-loop
+add-i c = omega arith
+
+loop-less : tie.Need-loop-less Inv-loop μ-loop
+loop-less c = omega arith
+
+loop-again : tie.Need-loop-again Inv-loop μ-loop
+loop-again c =
+    let f = c .before .before in
+    let at = f .before .before .before .before .before in
+    let from = at .before .before .args in
+    let good = rw (f .before .be16 .ensures) at (sym (f .mode-settable .ensures) ∙ not-false _ (c .before .if1 .left)) in
+    (omega arith, rw (c .set-mode-at .ensures, f .before .be16 .ensures) (turn-goes settableOn setMode moded (notModed (from .ms)) (at .loop .copy) _ _ _ (numbered-first (now (from .d)) (at .loop .i) (at .loop .n) (omega arith)) good ∙ at .loop .inv .1))
+
+returns-2 : tie.Need-returns-2 Inv-loop μ-loop
+returns-2 c =
+    let at = c .before in
+    let from = at .before .before .args in
+    turn-ends settableOn setMode moded (notModed (from .ms)) (at .loop .copy) _ (numbered-none (now (from .d)) (at .loop .i) (at .loop .n) (omega arith))
+    ∙ at .loop .inv .1
+    ∙ modes-walk (from .ms) (numbered (from .first) (words (now (from .d))))
+
+pub modes-from-spec : {M : Type 1} → statement M
+modes-from-spec =
+    tie.close
+    (tie.spec
+    Inv-loop
+    μ-loop
+    loop-holds
+    sub-loop
+    shared-slice-read-be16
+    add-be16
+    shared-slice-read-be16-2
+    be16-requires
+    mode-settable-requires
+    returns
+    cast-set-mode-at
+    set-mode-at-requires
+    add-n
+    add-i
+    loop-less
+    loop-again
+    returns-2)

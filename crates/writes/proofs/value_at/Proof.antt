@@ -1,0 +1,50 @@
+-- `writes::value_at` meets its contract: two bytes, or past the end. Assumes nothing.
+use borrow.Author.Needs.{needs}
+use mathlib.Core.Path.{_∙_}
+use denote.Ref.{now}
+use Rattle.writes.proofs.Words.{value-in, value-out}
+use borrow.Author.Needs.{needs}
+use Rattle.writes.proofs.value_at.Statement.{statement}
+use Rattle.writes.proofs.value_at.Tie as tie
+
+mul-be16 : tie.Need-mul-be16
+mul-be16 c = search needs
+
+shared-slice-read-be16 : tie.Need-shared-slice-read-be16
+shared-slice-read-be16 c = search needs
+
+mul-be16-2 : tie.Need-mul-be16-2
+mul-be16-2 c = search needs
+
+add-be16 : tie.Need-add-be16
+add-be16 c = search needs
+
+shared-slice-read-be16-2 : tie.Need-shared-slice-read-be16-2
+shared-slice-read-be16-2 c = search needs
+
+be16-requires : tie.Need-be16-requires
+be16-requires c κs = search needs
+
+returns : tie.Need-returns
+returns c =
+    let t = c .before .before .before in
+    let s = t .before .before in
+    c .be16 .ensures ∙ value-in (now (s .args .d)) (s .args .j) (t .if1 .taken)
+
+returns-2 : tie.Need-returns-2
+returns-2 c =
+    let s = c .before .before in
+    value-out (now (s .args .d)) (s .args .j) (c .if1 .left)
+
+pub value-at-spec : {M : Type 1} → statement M
+value-at-spec =
+    tie.close
+    (tie.spec
+    mul-be16
+    shared-slice-read-be16
+    mul-be16-2
+    add-be16
+    shared-slice-read-be16-2
+    be16-requires
+    returns
+    returns-2)

@@ -1,0 +1,213 @@
+// The register groups that Modbus writes, each on no more of the state than it may change. The values are lent as bytes, two each.
+ghost use mathlib.Core.Path.{_≡_};
+ghost use Prim.Native.Nat.{_≤_};
+ghost use lib.ListN.{getD, set};
+ghost use Rattle.lists.specs.Entries.{numbered};
+ghost use Rattle.model.specs.Refusals.{judged};
+ghost use Rattle.model.specs.Counters.{deduct, setModes};
+ghost use Rattle.model.specs.Registers.{writePermission, writeDeductions, writeModes, wordsThermostat, writeThermostat};
+ghost use Rattle.model.specs.Modbus.{words};
+ghost use Rattle.counters.specs.Answers.{judgedOf, modedOf};
+ghost use Rattle.setpoints.specs.Parts.{thermostatsSetOf};
+ghost use Rattle.settings.specs.Parts.{portSetOf};
+ghost use Rattle.writes.specs.Answers.{thermostatTaken};
+use counters::Judged;
+use counters::Moded;
+use model::Port;
+use model::Seconds;
+use model::Thermostat;
+use setpoints::ThermostatsSet;
+use settings::PortSet;
+
+// The value at a place, or 0 past the end.
+fn value_at(d: &[u8], j: usize) -> u16
+    ensures { λ r. ⌜ r ≡ getD (words (now (d .entry))) j 0 ⌝ }
+{
+    if j < d.len() / 2 {
+        return octets::be16(d[2 * j], d[2 * j + 1]);
+    }
+    0
+}
+
+// 200 to 215: deductions in turn from input `first` on, on a copy.
+fn deduct_from(first: u8, d: &[u8], cs: [u16; 16]) -> Judged
+    ensures { λ r. ⌜ r ≡ judgedOf (judged cs (deduct (numbered first (words (now (d .entry)))) cs)) ⌝ }
+{
+    let mut copy = cs;
+    let mut n = first;
+    let mut i = 0;
+    while 1 < d.len() - i {
+        let v = octets::be16(d[i], d[i + 1]);
+        if !counters::fits_at(copy, n, v) {
+            return Judged {
+                refusal: 11,
+                counters: cs,
+            };
+        }
+        let next = counters::deduct_at(copy, n, v);
+        copy = next;
+        n += 1;
+        i += 2;
+    }
+    Judged {
+        refusal: 0,
+        counters: copy,
+    }
+}
+
+// 200 to 215: at most 12 deductions from register a on.
+pub fn write_deductions(a: u16, d: &[u8], cs: [u16; 16]) -> Judged
+    ensures { λ r. ⌜ r ≡ judgedOf (judged cs (writeDeductions a (words (now (d .entry))) cs)) ⌝ }
+{
+    let count = d.len() / 2;
+    if 216 < (a as usize) + count {
+        return Judged {
+            refusal: 9,
+            counters: cs,
+        };
+    }
+    if 12 < count {
+        return Judged {
+            refusal: 9,
+            counters: cs,
+        };
+    }
+    let first = octets::less(a, 199) as u8;
+    deduct_from(first, d, cs)
+}
+
+// 0: one value alone, 00FF, gives the permission.
+pub fn write_permission(single: bool, d: &[u8], p: Port) -> PortSet
+    ensures { λ r. ⌜ r ≡ portSetOf (judged p (writePermission single (words (now (d .entry))) p)) ⌝ }
+{
+    if !single {
+        return PortSet {
+            refusal: 9,
+            port: p,
+        };
+    }
+    if value_at(d, 0) != 0x00FF {
+        return PortSet {
+            refusal: 11,
+            port: p,
+        };
+    }
+    PortSet {
+        refusal: 0,
+        port: settings::permitted(p, true),
+    }
+}
+
+// The thermostat of four values.
+fn thermostat_from(d: &[u8]) -> Thermostat
+    requires { ⌜ getD (words (now d)) 0 0 ≤ 255 ⌝ }
+    ensures { λ r. ⌜ r ≡ wordsThermostat (words (now (d .entry))) ⌝ }
+{
+    let flags = value_at(d, 0) as u8;
+    let tempx = octets::signed_of(value_at(d, 1));
+    let tempy = octets::signed_of(value_at(d, 2));
+    let last = value_at(d, 3);
+    let time = Seconds(octets::high_byte(last));
+    let err = octets::low_byte(last);
+    Thermostat {
+        flags,
+        tempx,
+        tempy,
+        time,
+        err,
+    }
+}
+
+// The thermostats with one replaced, where the place has one.
+fn put_thermostat(hs: [Thermostat; 16], k: usize, h: Thermostat) -> [Thermostat; 16]
+    ensures { λ r. ⌜ r ≡ set hs k h ⌝ }
+{
+    let mut next = hs;
+    if k < 16 {
+        next[k] = h;
+    }
+    next
+}
+
+// A thermostat put in place if it is allowed.
+fn set_thermostat(k: usize, d: &[u8], hs: [Thermostat; 16]) -> ThermostatsSet
+    ensures { λ r. ⌜ r ≡ thermostatTaken k (words (now (d .entry))) hs ⌝ }
+{
+    if 255 < value_at(d, 0) {
+        return ThermostatsSet {
+            refusal: 11,
+            thermostats: hs,
+        };
+    }
+    let h = thermostat_from(d);
+    if !setpoints::fits(h) {
+        return ThermostatsSet {
+            refusal: 11,
+            thermostats: hs,
+        };
+    }
+    ThermostatsSet {
+        refusal: 0,
+        thermostats: put_thermostat(hs, k, h),
+    }
+}
+
+// 600 to 663: one thermostat by its four registers.
+pub fn write_thermostat(a: u16, d: &[u8], hs: [Thermostat; 16]) -> ThermostatsSet
+    ensures { λ r. ⌜ r ≡ thermostatsSetOf (judged hs (writeThermostat a (words (now (d .entry))) hs)) ⌝ }
+{
+    let k = octets::less(a, 600);
+    if d.len() / 2 != 4 {
+        return ThermostatsSet {
+            refusal: 9,
+            thermostats: hs,
+        };
+    }
+    if k % 4 != 0 {
+        return ThermostatsSet {
+            refusal: 9,
+            thermostats: hs,
+        };
+    }
+    set_thermostat((k / 4) as usize, d, hs)
+}
+
+// 300 to 315: modes in turn from input `first` on, on a copy.
+fn modes_from(first: u8, d: &[u8], ms: [u8; 16]) -> Moded
+    ensures { λ r. ⌜ r ≡ modedOf (judged ms (setModes (numbered first (words (now (d .entry)))) ms)) ⌝ }
+{
+    let mut copy = ms;
+    let mut n = first;
+    let mut i = 0;
+    while 1 < d.len() - i {
+        let v = octets::be16(d[i], d[i + 1]);
+        if !counters::mode_settable(n, v) {
+            return Moded {
+                refusal: 11,
+                modes: ms,
+            };
+        }
+        let next = counters::set_mode_at(copy, n, v as u8);
+        copy = next;
+        n += 1;
+        i += 2;
+    }
+    Moded {
+        refusal: 0,
+        modes: copy,
+    }
+}
+
+// 300 to 315: modes from register a on.
+pub fn write_modes(a: u16, d: &[u8], ms: [u8; 16]) -> Moded
+    ensures { λ r. ⌜ r ≡ modedOf (judged ms (writeModes a (words (now (d .entry))) ms)) ⌝ }
+{
+    if 316 < (a as usize) + d.len() / 2 {
+        return Moded {
+            refusal: 9,
+            modes: ms,
+        };
+    }
+    let first = octets::less(a, 299) as u8;
+    modes_from(first, d, ms)
+}
