@@ -1,4 +1,5 @@
 -- `registers::read_thermostat` meets its contract: four aligned registers, or 9. Assumes nothing.
+use Prim.Native.Nat.{_%_}
 use borrow.Author.Needs.{needs}
 use native.Mathlib.Omega.{arith}
 use borrow.Author.Tests.{eq-eqb, ne-eqb}
@@ -25,7 +26,7 @@ returns-2 : tie.Need-returns-2
 unfolding readThermostat judged
 returns-2 c =
     let e = c .before .before in
-    rw (c .refuse2 .ensures, eq-eqb _ _ (e .if1 .left), ← e .before .less .ensures, ne-eqb _ _ (c .before .if2 .taken))
+    rw (c .refuse2 .ensures, eq-eqb _ _ (e .if1 .left), ← e .before .less .ensures, ne-eqb (e .before .less .result % 4) 0 (c .before .if2 .taken))
 
 cast-thermostat-at : tie.Need-cast-thermostat-at
 cast-thermostat-at c = search needs
@@ -48,7 +49,7 @@ returns-3 c =
     let w = c .before .before in
     let t = w .before .before in
     let e = t .before in
-    rw (c .tell .ensures, c .before .show-words .ensures, w .thermostat-words .ensures, w .before .thermostat-at .ensures, eq-eqb _ _ (e .if1 .left), e .if1 .left, ← e .before .less .ensures, eq-eqb _ _ (t .if2 .left))
+    rw (c .tell .ensures, c .before .show-words .ensures, w .thermostat-words .ensures, w .before .thermostat-at .ensures, eq-eqb _ _ (e .if1 .left), e .if1 .left, ← e .before .less .ensures, eq-eqb (e .before .less .result % 4) 0 (t .if2 .left))
 
 pub read-thermostat-spec : {M : Type 1} → statement M
 read-thermostat-spec =

@@ -13,14 +13,14 @@ wrong-of-requires c κs = tt
 
 returns : tie.Need-returns
 unfolding sampled
-returns c = rw (c .wrong-of .ensures, le-ltb _ _ (c .before .if1 .taken))
+returns c = rw (c .wrong-of .ensures, le-ltb _ 65536 (c .before .if1 .taken))
 
 wrong-of-requires-2 : tie.Need-wrong-of-requires-2
 wrong-of-requires-2 c κs = tt
 
 returns-2 : tie.Need-returns-2
 unfolding sampled
-returns-2 c = rw (c .wrong-of2 .ensures, lt-ltb _ _ (c .before .before .if1 .left), c .before .if2 .taken)
+returns-2 c = rw (c .wrong-of2 .ensures, lt-ltb _ 65536 (c .before .before .if1 .left), c .before .if2 .taken)
 
 cast-bits : tie.Need-cast-bits
 cast-bits c = search needs
@@ -30,7 +30,7 @@ cast-times c = omega (arith, ltb-false 65535 (c .before .before .args .n) (or-ri
 
 returns-3 : tie.Need-returns-3
 unfolding sampled
-returns-3 c = rw (lt-ltb _ _ (c .before .if1 .left), c .if2 .left)
+returns-3 c = rw (lt-ltb _ 65536 (c .before .if1 .left), c .if2 .left)
 
 pub sampled-of-spec : {M : Type 1} → statement M
 sampled-of-spec =

@@ -19,7 +19,7 @@ returns c = rw (words-length, lt-ltb _ _ (c .if1 .taken))
 
 returns-2 : tie.Need-returns-2
 unfolding writeDeductions deduct judged
-returns-2 c = rw (words-length, le-ltb _ _ (c .before .if1 .left), lt-ltb _ _ (c .if2 .taken))
+returns-2 c = rw (words-length, le-ltb _ _ (c .before .if1 .left), lt-ltb 12 _ (c .if2 .taken))
 
 less-requires : tie.Need-less-requires
 less-requires c κs = search needs
@@ -34,7 +34,7 @@ returns-3 : tie.Need-returns-3
 unfolding writeDeductions deduct judged
 returns-3 c =
     let e = c .before .before in
-    rw (c .deduct-from .ensures, c .before .less .ensures, words-length, le-ltb _ _ (e .before .if1 .left), le-ltb _ _ (e .if2 .left))
+    rw (c .deduct-from .ensures, c .before .less .ensures, words-length, le-ltb _ _ (e .before .if1 .left), le-ltb 12 _ (e .if2 .left))
 
 pub write-deductions-spec : {M : Type 1} → statement M
 write-deductions-spec =

@@ -14,7 +14,7 @@ add-if1 c = search needs
 
 returns : tie.Need-returns
 unfolding writeModes setModes judged
-returns c = rw (words-length, lt-ltb _ _ (c .if1 .taken))
+returns c = rw (words-length, lt-ltb 316 _ (c .if1 .taken))
 
 less-requires : tie.Need-less-requires
 less-requires c κs = search needs
@@ -27,7 +27,7 @@ modes-from-requires c κs = search needs
 
 returns-2 : tie.Need-returns-2
 unfolding writeModes setModes judged
-returns-2 c = rw (c .modes-from .ensures, c .before .less .ensures, words-length, le-ltb _ _ (c .before .before .if1 .left))
+returns-2 c = rw (c .modes-from .ensures, c .before .less .ensures, words-length, le-ltb 316 _ (c .before .before .if1 .left))
 
 pub write-modes-spec : {M : Type 1} → statement M
 write-modes-spec =

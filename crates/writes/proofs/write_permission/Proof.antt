@@ -16,7 +16,7 @@ value-at-requires c κs = search needs
 
 returns-2 : tie.Need-returns-2
 unfolding writePermission judged
-returns-2 c = rw (not-false (c .before .before .before .before .args .single) (c .before .before .if1 .left), ← c .before .value-at .ensures, ne-eqb _ _ (c .if2 .taken))
+returns-2 c = rw (not-false (c .before .before .before .before .args .single) (c .before .before .if1 .left), ← c .before .value-at .ensures, ne-eqb _ 0x00FF (c .if2 .taken))
 
 permitted-requires : tie.Need-permitted-requires
 permitted-requires c κs = search needs
@@ -25,7 +25,7 @@ returns-3 : tie.Need-returns-3
 unfolding writePermission judged
 returns-3 c =
     let e = c .before in
-    rw (c .permitted .ensures, not-false (e .before .before .before .before .args .single) (e .before .before .if1 .left), ← e .before .value-at .ensures, eq-eqb _ _ (e .if2 .left))
+    rw (c .permitted .ensures, not-false (e .before .before .before .before .args .single) (e .before .before .if1 .left), ← e .before .value-at .ensures, eq-eqb _ 0x00FF (e .if2 .left))
 
 pub write-permission-spec : {M : Type 1} → statement M
 write-permission-spec =
