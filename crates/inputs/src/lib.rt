@@ -16,7 +16,7 @@ pub struct Sampled {
 }
 
 // Bit i of a sample or of a mask.
-pub fn bit_at(bits: u16, i: usize) -> bool
+fn bit_at(bits: u16, i: usize) -> bool
     requires { ⌜ i < 16 ⌝ }
     ensures { λ r. ⌜ r ≡ bitAt bits i ⌝ }
 {

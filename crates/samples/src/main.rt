@@ -2,18 +2,22 @@
 use libc::STDOUT_FILENO;
 use load::Played;
 
+// What is written has no contract: io::write_all promises nothing of it. The gate holds it to the file `stdout`.
+
 // One number and a line end.
 fn print_line(n: u64) {
     io::print_decimal(STDOUT_FILENO, n);
     io::write_all(STDOUT_FILENO, b"\n");
 }
 
+// The sixteen counters, a line each.
 fn print_counters(a: [u16; 16]) {
     for i in 0..16usize {
         print_line(a[i] as u64);
     }
 }
 
+// The counters reached, then the bytes of the notices.
 fn print_outcome(p: Played) {
     let m = p.after;
     let x = m.inputs;
