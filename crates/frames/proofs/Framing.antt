@@ -10,25 +10,20 @@ use borrow.Author.Tests.{lt-ltb}
 use Rattle.lists.specs.Data.{padded, dataOf, held, pushed}
 use Rattle.lists.specs.Numbers.{bytes}
 use Rattle.lists.specs.declared.Data.{Data}
-use Rattle.lists.proofs.DataLaws.{push-law, held-law}
+use Rattle.lists.proofs.DataLaws.{padded-push, push-law, held-law}
 use Rattle.model.specs.Frames.{sumOf, closed, spinelReply, crcOf, withCrc, modbusReply}
 use Rattle.frames.specs.Replies.{spinelHead, modbusHead, spinelReplied, modbusReplied}
 
 -- Arrays ---------------------------------------------------------------------------------
 
--- a store behind the last byte that counts
-store-law : (l : List ℕ) (b : ℕ) → length l < 256 → set (padded l) (length l) b ≡ padded (l ++ b ∷ [])
-unfolding pushed
-store-law l b h = rw (lt-ltb (length l) 256 h) at (ap (λ (d : Data). d .bytes) (push-law l b h))
-
--- two of them
+-- two stores behind the last byte that counts
 two-law : (l : List ℕ) (k a b : ℕ) → length l ≡ k → k ≤ 254 → record { bytes = set (set (padded l) k a) (k + 1) b; len = k + 2 } ≡ dataOf (l ++ a ∷ b ∷ [])
 two-law l k a b e h =
     let more : length (l ++ a ∷ []) ≡ k + 1 = length-append l (a ∷ []) ∙ ap (_+ 1) e in
     let all : l ++ a ∷ b ∷ [] ≡ (l ++ a ∷ []) ++ b ∷ [] = sym (append-assoc l (a ∷ []) (b ∷ [])) in
     let long : length (l ++ a ∷ b ∷ []) ≡ k + 2 = length-append l (a ∷ b ∷ []) ∙ ap (_+ 2) e in
-    let first : set (padded l) k a ≡ padded (l ++ a ∷ []) = rw (← e) (store-law l a (omega arith)) in
-    let then : set (padded (l ++ a ∷ [])) (k + 1) b ≡ padded ((l ++ a ∷ []) ++ b ∷ []) = rw (← more) (store-law (l ++ a ∷ []) b (omega arith)) in
+    let first : set (padded l) k a ≡ padded (l ++ a ∷ []) = rw (← e) (padded-push l a (omega arith)) in
+    let then : set (padded (l ++ a ∷ [])) (k + 1) b ≡ padded ((l ++ a ∷ []) ++ b ∷ []) = rw (← more) (padded-push (l ++ a ∷ []) b (omega arith)) in
     rw (first, then, long, all)
 
 zeros-law : (n m : ℕ) → drop {A = ℕ} n (replicate (n + m) 0) ≡ replicate m 0

@@ -1,18 +1,13 @@
 -- What holds of a frame that passes checks 2 to 6. Assumes nothing.
-use Prim.Native.Nat.{ℕ, suc, _≤_}
-use native.Mathlib.Omega.{arith}
-use mathlib.Core.Path.{_≡_, refl}
-use mathlib.Core.Bool.{Bool, true, false, cond}
+use Prim.Native.Nat.{ℕ, _≤_}
+use mathlib.Core.Path.{_≡_}
+use mathlib.Core.Bool.{false}
 use mathlib.Core.List.{List}
 use lib.ListN.{length}
 use borrow.Author.Tests.{not-false}
-use Rattle.lists.proofs.Choices.{within-low, within-high}
+use Rattle.lists.proofs.Choices.{within-low, within-high, passed}
 use Rattle.model.specs.Frames.{spinelTo, instructionOf, modbusTo, functionOf}
 use Rattle.model.specs.Refusals.{frameLengthWrong, shapeWrong, sumWrong, crcWrong, spinelAddressWrong, modbusAddressWrong, spinelBroadcastWrong, modbusBroadcastWrong, spinelFrameRefusal, modbusFrameRefusal}
-
-passed : (b : Bool) (n r : ℕ) → cond b (suc n) r ≡ 0 → (b ≡ false) × (r ≡ 0)
-passed true n r h = absurd (omega arith)
-passed false n r h = (refl, h)
 
 module _ (least : ℕ) (f : List ℕ) (h : frameLengthWrong least f ≡ false) where
   pub at-least : least ≤ length f

@@ -8,6 +8,7 @@ use mathlib.Core.Bool.{Bool, true, false, cond, not}
 use mathlib.Core.List.{List, [], _∷_, _++_, flatMap}
 use lib.ListN.{length, getD, drop, drop-of-length-le}
 use lib.Seq.{drop-cons}
+use Rattle.lists.proofs.ChunkLaws.{rest-first}
 use Rattle.lists.specs.Tests.{all}
 use Rattle.lists.specs.Data.{dataOf, extended, pushed}
 use Rattle.lists.specs.declared.Data.{Data}
@@ -32,10 +33,6 @@ listed-all d h = rw h
 pub listed-own : (d : List ℕ) → asksAll d ≡ false → listed d ≡ d
 unfolding asksAll listed
 listed-own d h = rw h
-
--- what is left of a list, by its first
-pub rest-first : (l : List ℕ) (i : ℕ) → i < length l → drop i l ≡ getD l i 0 ∷ drop (i + 1) l
-rest-first l i h = rw (drop-cons l i 0 h, add-one)
 
 -- n, n + 1, .., k of them
 unfoldable upFrom : ℕ → ℕ → List ℕ

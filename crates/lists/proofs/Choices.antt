@@ -1,10 +1,8 @@
 -- Tests and choices taken apart. Assumes nothing.
-use Prim.Native.Nat.{ℕ, zero, suc, _≤_, _<_}
+use Prim.Native.Nat.{ℕ, suc, _≤_}
 use native.Mathlib.Omega.{arith}
 use lib.Dec.{eqb, leb, ltb, leb·zero}
-use lib.ListN.{length, drop, getD, drop-of-length-le}
-use lib.Seq.{drop-cons}
-use borrow.Author.Tests.{eqb-true, leb-true, leb-false, le-leb, lt-leb, le-ltb, lt-ltb}
+use borrow.Author.Tests.{eqb-true, leb-true, leb-false, le-leb, le-ltb, lt-ltb}
 use mathlib.Core.Path.{_≡_, refl, sym}
 use mathlib.Core.Bool.{Bool, true, false, cond, not, _&&_, _||_}
 use mathlib.Core.List.{List, [], _∷_}
@@ -18,6 +16,11 @@ cond-case P false a b f g = g refl
 -- one arm of a dispatch on a number
 pub cond-eq : {A : Type 0} (P : A → Type 0) (n k : ℕ) (a b : A) → (n ≡ k → P a) → P b → P (cond (eqb n k) a b)
 cond-eq P n k a b f g = cond-case P (eqb n k) a b (λ e. f (eqb-true n k e)) (λ _. g)
+
+-- a refusal's number that a test did not give
+pub passed : (b : Bool) (n r : ℕ) → cond b (suc n) r ≡ 0 → (b ≡ false) × (r ≡ 0)
+passed true n r h = absurd (omega arith)
+passed false n r h = (refl, h)
 
 pub and-left : (a b : Bool) → (a && b) ≡ true → a ≡ true
 and-left true b h = refl

@@ -36,6 +36,10 @@ unfolding chunksOf
 length-chunksOf w zero l = refl
 length-chunksOf w (suc n) l = ap suc (length-chunksOf w n (drop w l))
 
+-- what is left of a list, by its first
+pub rest-first : (l : List ℕ) (i : ℕ) → i < length l → drop i l ≡ getD l i 0 ∷ drop (i + 1) l
+rest-first l i h = rw (drop-cons l i 0 h, add-one)
+
 -- a chunk, byte by byte
 pub piece : {A : Type 0} (k i : ℕ) (l : List A) (d : A) → i < length l → take (suc k) (drop i l) ≡ getD l i d ∷ take k (drop (i + 1) l)
 piece k i l d h = rw (drop-cons l i d h, add-one)

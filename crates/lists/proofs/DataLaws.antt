@@ -10,7 +10,8 @@ use lib.Seq.{set-append-seam, append-snoc, take-suc, set-at, getD-take, drop-con
 use Rattle.lists.specs.Data.{dataOf, pushed, extended, held, padded, over}
 use Rattle.lists.specs.declared.Data.{Data}
 
-padded-push : (l : List ℕ) (b : ℕ) → length l < 256 → set (padded l) (length l) b ≡ padded (l ++ b ∷ [])
+-- a store behind the last byte that counts
+pub padded-push : (l : List ℕ) (b : ℕ) → length l < 256 → set (padded l) (length l) b ≡ padded (l ++ b ∷ [])
 unfolding padded
 padded-push l b h =
     let more : 256 - length l ≡ suc (255 - length l) = omega arith in

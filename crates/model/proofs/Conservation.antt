@@ -9,7 +9,7 @@ use lib.Dec.{leb, eqb}
 use lib.IntN.{ℤ}
 use borrow.Author.Tests.{leb-true}
 use Rattle.lists.specs.Numbers.{bytes}
-use Rattle.lists.proofs.Choices.{cond-case, and-right}
+use Rattle.lists.proofs.Choices.{cond-case, and-right, passed}
 use Rattle.model.specs.declared.Module.{Module}
 use Rattle.model.specs.State.{freshModule}
 use Rattle.model.specs.Frames.{spinelTo, signatureOf, instructionOf, spinelData, spinelBroadcast, spinelReply, sumOf, functionOf}
@@ -31,11 +31,6 @@ use Rattle.model.proofs.ModbusKeeps.{modbus-good}
 -- the answer o to a call keeps the invariant
 record Kept (i : ℕ) (t : Tally) (a : Act) (o : Out) : Type 0 where
   keeps : Inv i (o .after .inputs) (ifAccepted (o .refusal) t (tallied a (o .reply) t))
-
--- a refusal that a test did not give
-passed : (b : Bool) (n r : ℕ) → cond b (suc n) r ≡ 0 → (b ≡ false) × (r ≡ 0)
-passed true n r h = absurd (omega arith)
-passed false n r h = (refl, h)
 
 -- a frame that passes 2 to 6 is no forbidden broadcast
 no-broadcast : (own : ℕ) (f : List ℕ) → spinelFrameRefusal own f ≡ 0 → spinelBroadcastWrong (spinelTo f) (instructionOf f) ≡ false

@@ -6,7 +6,7 @@ use mathlib.Core.List.{List, [], _∷_, map}
 use lib.ListN.{length, getD, drop, drop-of-length-le}
 use Rattle.lists.specs.Chunks.{chunks}
 use Rattle.lists.proofs.ChunkLaws.{chunks-cons, chunks-none, piece}
-use Rattle.items.proofs.Lists.{rest-first}
+use Rattle.lists.proofs.ChunkLaws.{rest-first}
 
 -- items that single bytes stand for
 module _ {A : Type 0} (f : ℕ → A) (l : List ℕ) (i : ℕ) where

@@ -7,7 +7,7 @@ use mathlib.Core.List.{List, [], _∷_}
 use lib.ListN.{length, getD, take, drop, drop-of-length-le}
 use borrow.Author.Tests.{lt-ltb, le-ltb, eq-eqb, ne-eqb}
 use Rattle.script.specs.Numbers.{digit, digits, none, decimal, positive, negative, signed}
-use Rattle.script.proofs.Leading.{rest-first}
+use Rattle.lists.proofs.ChunkLaws.{rest-first}
 use Rattle.script.proofs.Firsts.{tail-part}
 
 -- a product of a number of 16 bits and a byte

@@ -7,11 +7,8 @@ use mathlib.Core.Bool.{Bool, true, false, cond}
 use mathlib.Core.List.{List, [], _∷_}
 use lib.ListN.{length, getD, drop, drop-of-length-le}
 use lib.Seq.{drop-cons}
+use Rattle.lists.proofs.ChunkLaws.{rest-first}
 use Rattle.script.specs.Words.{leading}
-
--- what is left of a list, by its first
-pub rest-first : (l : List ℕ) (i : ℕ) → i < length l → drop i l ≡ getD l i 0 ∷ drop (i + 1) l
-rest-first l i h = rw (drop-cons l i 0 h, add-one)
 
 -- no more than there are
 pub leading-le : (f : ℕ → Bool) (l : List ℕ) → leading f l ≤ length l

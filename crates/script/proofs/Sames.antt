@@ -7,7 +7,7 @@ use lib.Dec.{eqb}
 use lib.ListN.{length, getD, drop, drop-of-length-le}
 use borrow.Author.Tests.{eq-eqb, ne-eqb}
 use Rattle.script.specs.Words.{same}
-use Rattle.script.proofs.Leading.{rest-first}
+use Rattle.lists.proofs.ChunkLaws.{rest-first}
 
 -- words of two lengths differ
 pub same-length : (w v : List ℕ) → (length w ≡ length v → ⊥) → false ≡ same w v

@@ -7,7 +7,7 @@ use lib.ListN.{length, drop, drop-of-length-le}
 use borrow.Author.Tests.{not-true, not-false}
 use Rattle.lists.specs.Tests.{all}
 use Rattle.lists.proofs.Choices.{all-goes, all-stops, all-ends}
-use Rattle.items.proofs.Lists.{rest-first}
+use Rattle.lists.proofs.ChunkLaws.{rest-first}
 use Rattle.counters.specs.Answers.{readable}
 use Rattle.counters.proofs.all_readable.Statement.{statement}
 use Rattle.counters.proofs.all_readable.Tie as tie

@@ -7,7 +7,7 @@ use mathlib.Core.List.{foldl}
 use denote.Ref.{now}
 use lib.ListN.{length, drop, drop-of-length-le}
 use Rattle.lists.proofs.Walks.{fold-turn}
-use Rattle.items.proofs.Lists.{rest-first}
+use Rattle.lists.proofs.ChunkLaws.{rest-first}
 use Rattle.counters.specs.Answers.{readStep, readStart}
 use Rattle.counters.proofs.Readings.{read-steps}
 use Rattle.counters.proofs.read_each.Statement.{statement}

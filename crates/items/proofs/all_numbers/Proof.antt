@@ -8,7 +8,7 @@ use borrow.Author.Tests.{not-true, not-false}
 use Rattle.lists.specs.Tests.{all}
 use Rattle.lists.proofs.Choices.{all-goes, all-stops, all-ends}
 use Rattle.model.specs.Counters.{isNumber}
-use Rattle.items.proofs.Lists.{rest-first}
+use Rattle.lists.proofs.ChunkLaws.{rest-first}
 use Rattle.items.proofs.all_numbers.Statement.{statement}
 use Rattle.items.proofs.all_numbers.Tie as tie
 

@@ -6,7 +6,7 @@ use lib.ListN.{length, drop, drop-of-length-le}
 use Rattle.lists.specs.Tests.{all}
 use Rattle.lists.proofs.Choices.{all-goes, all-stops, all-ends}
 use Rattle.model.specs.Outputs.{presetReady}
-use Rattle.items.proofs.Lists.{rest-first}
+use Rattle.lists.proofs.ChunkLaws.{rest-first}
 use Rattle.relays.proofs.all_ready.Statement.{statement}
 use Rattle.relays.proofs.all_ready.Tie as tie
 

@@ -6,7 +6,7 @@ use mathlib.Core.List.{foldl}
 use lib.ListN.{length, drop, drop-of-length-le}
 use Rattle.lists.proofs.Walks.{fold-turn}
 use Rattle.model.specs.Outputs.{startPreset}
-use Rattle.items.proofs.Lists.{rest-first}
+use Rattle.lists.proofs.ChunkLaws.{rest-first}
 use Rattle.relays.proofs.start_each.Statement.{statement}
 use Rattle.relays.proofs.start_each.Tie as tie
 
