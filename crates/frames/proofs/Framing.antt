@@ -1,16 +1,15 @@
 -- Stores into one array make the definition's reply. Assumes nothing.
-use Prim.Native.Nat.{ℕ, zero, suc, _+_, _-_, _/_, _%_, _<_, _≤_, min}
+use Prim.Native.Nat.{ℕ, zero, suc, _+_, _-_, _/_, _%_, _≤_, min}
 use native.Mathlib.Omega.{arith}
 use native.Mathlib.Nat.{zero-min, min-zero, suc-min-suc, min-le-right}
 use mathlib.Core.Path.{_≡_, refl, sym, ap, _∙_}
 use mathlib.Core.List.{List, [], _∷_, _++_, append-assoc}
 use lib.ListN.{length, set, take, drop, replicate, length-append, length-replicate, replicate-append-replicate}
 use lib.Seq.{paste, take-at, drop-at, drop-append-add, length-take-le, take-all}
-use borrow.Author.Tests.{lt-ltb}
-use Rattle.lists.specs.Data.{padded, dataOf, held, pushed}
+use Rattle.lists.specs.Data.{padded, dataOf, held}
 use Rattle.lists.specs.Numbers.{bytes}
 use Rattle.lists.specs.declared.Data.{Data}
-use Rattle.lists.proofs.DataLaws.{padded-push, push-law, held-law}
+use Rattle.lists.proofs.DataLaws.{padded-push, held-law}
 use Rattle.model.specs.Frames.{sumOf, closed, spinelReply, crcOf, withCrc, modbusReply}
 use Rattle.frames.specs.Replies.{spinelHead, modbusHead, spinelReplied, modbusReplied}
 

@@ -1,5 +1,5 @@
 -- Edges of the sixteen lines as a loop finds them. Assumes nothing.
-use Prim.Native.Nat.{ℕ, _<_}
+use Prim.Native.Nat.{ℕ}
 use native.Mathlib.Omega.{arith}
 use mathlib.Core.Path.{_≡_, refl, sym, ap, _∙_}
 use mathlib.Core.Bool.{Bool, true, false, cond, not, _&&_, _||_, or-false, Bool·beq}
@@ -8,7 +8,6 @@ use mathlib.Core.List.{List}
 use lib.Dec.{eqb}
 use lib.ListN.{length, getD}
 use Rattle.lists.specs.Tests.{any, someBelow}
-use Rattle.lists.specs.Mapi.{mapi}
 use Rattle.lists.specs.Numbers.{bitAt}
 use Rattle.lists.proofs.Done.{length-mapi}
 use Rattle.lists.proofs.Somes.{some-any, some-false, none-below, mapi-same, mapi-mapi}

@@ -2,6 +2,7 @@
 use mathlib.Core.Bool.{Bool, true, false, cond}
 use mathlib.Core.Path.{_≡_, refl}
 use mathlib.Core.List.{List, [], _∷_, foldl}
+use Rattle.lists.specs.Tests.{all}
 use Rattle.lists.specs.Walk.{walk, allPass}
 
 -- one turn over any list, from how its first is taken
@@ -30,6 +31,16 @@ walk-splits ok step won lost (e ∷ es) s = go (ok s e) (walk-splits ok step won
         → cond b (walk ok step won lost (step s e) es) lost ≡ cond (cond b (allPass ok step (step s e) es) false) (won (foldl step (step s e) es)) lost
     go true h = h
     go false h = refl
+
+-- a test that does not look at the copy, asked with the copy beside it
+abbrev pub onCopy : {E S : Type 0} → (E → Bool) → S → E → Bool
+onCopy ok s e = ok e
+
+-- it passes as on the list alone
+pub all-on : {E S : Type 0} (ok : E → Bool) (step : S → E → S) (es : List E) (s : S) → allPass (onCopy ok) step s es ≡ all ok es
+unfolding allPass all
+all-on ok step [] s = refl
+all-on ok step (e ∷ es) s = rw (all-on ok step es (step s e))
 
 -- one turn of a loop that applies each
 pub fold-turn : {E S : Type 0} (step : S → E → S) (s : S) (es rest : List E) (e : E) → es ≡ e ∷ rest → foldl step (step s e) rest ≡ foldl step s es

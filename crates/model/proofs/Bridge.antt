@@ -1,26 +1,26 @@
 -- The tally's reading of samples and frames against the module's. Assumes nothing.
-use Prim.Native.Nat.{ℕ, zero, suc, _+_, _-_, _*_, _/_, _%_, _≤_, _<_}
+use Prim.Native.Nat.{ℕ, zero, suc, _+_, _-_, _*_, _%_, _≤_, _<_}
 use native.Mathlib.Nat.{add-zero}
 use native.Mathlib.Omega.{arith}
 use mathlib.Core.Path.{_≡_, refl, sym, ap, _∙_}
-use mathlib.Core.List.{List, [], _∷_, _++_, map}
+use mathlib.Core.List.{List, [], _∷_, map}
 use mathlib.Core.Bool.{Bool, true, false, cond, not, _&&_, _||_, and-false}
-use lib.ListN.{length, getD, take, drop, length-take, length-drop}
+use lib.ListN.{length, getD, drop, length-take, length-drop}
 use lib.Seq.{getD-take, getD-drop}
 use lib.Dec.{leb, ltb, eqb}
 use borrow.Author.Tests.{leb-true, leb-false, eqb-true, eqb-false, ltb-true, ltb-false, le-leb, lt-leb, lt-ltb, le-ltb, eq-eqb, ne-eqb, not-false}
 use Rattle.lists.specs.Tests.{within}
 use Rattle.lists.specs.Chunks.{chunks, chunksOf}
 use Rattle.lists.specs.Numbers.{number}
-use Rattle.lists.specs.Entries.{Entry, entry, entries, entryOf, numbered}
-use Rattle.lists.proofs.Choices.{and-left, and-right, within-low, within-high}
+use Rattle.lists.specs.Entries.{Entry, entries, entryOf, numbered}
+use Rattle.lists.proofs.Choices.{and-left, and-right, within-low}
 use Rattle.lists.proofs.ChunkLaws.{chunks-cons, entries-cons}
 use Rattle.model.specs.State.{line}
 use Rattle.model.specs.Samples.{lineSampled, selects, selectedEdge}
 use Rattle.model.specs.Frames.{modbusBody}
 use Rattle.model.specs.Counters.{zeroes, numberIn, parameters, everyNumber}
 use Rattle.model.specs.Modbus.{startOf, secondOf, countWrong, words}
-use Rattle.model.specs.Tally.{Account, withRun, withMode, collect, clear, flip, selectedBy, sampledAccount, twoAt, amounts, modeGiven, valueAt, takenBy, takenFrom, quantity, writes, written, modbusCollects, modbusClears, modbusResets, modbusMode, changed}
+use Rattle.model.specs.Tally.{Account, withRun, withMode, collect, clear, selectedBy, sampledAccount, twoAt, amounts, modeGiven, valueAt, takenBy, takenFrom, quantity, writes, written, modbusCollects, modbusClears, modbusResets, modbusMode, changed}
 use Rattle.model.proofs.OneInput.{collectedBy, modeAfter, named, Once, here, there, none-collected, none-mode, once-collected, once-mode, once-named}
 
 -- samples ---------------------------------------------------------------------

@@ -1,19 +1,19 @@
 -- Demand 3: over every list of calls from a fresh module, edges are collected plus counter plus a multiple of 65,536. Assumes nothing.
-use Prim.Native.Nat.{ℕ, zero, suc, _+_, _-_, _*_, _≤_, _<_}
+use Prim.Native.Nat.{ℕ, zero, suc, _+_, _-_, _≤_, _<_}
 use native.Mathlib.Omega.{arith}
-use mathlib.Core.Path.{_≡_, refl, sym, ap, _∙_}
+use mathlib.Core.Path.{_≡_, refl, sym, _∙_}
 use mathlib.Core.List.{List, [], _∷_, _++_}
-use mathlib.Core.Bool.{Bool, true, false, cond, not, _&&_, _||_, and-true}
+use mathlib.Core.Bool.{Bool, true, false, cond, _&&_, _||_, and-true}
 use lib.ListN.{length, getD, drop}
-use lib.Dec.{leb, eqb}
+use lib.Dec.{eqb}
 use lib.IntN.{ℤ}
 use borrow.Author.Tests.{leb-true}
 use Rattle.lists.specs.Numbers.{bytes}
-use Rattle.lists.proofs.Choices.{cond-case, and-right, passed}
+use Rattle.lists.proofs.Choices.{and-right, passed}
 use Rattle.model.specs.declared.Module.{Module}
 use Rattle.model.specs.State.{freshModule}
 use Rattle.model.specs.Frames.{spinelTo, signatureOf, instructionOf, spinelData, spinelBroadcast, spinelReply, sumOf, functionOf}
-use Rattle.model.specs.Refusals.{Out, Done, judged, ackOf, silent, ifPasses, frameLengthWrong, shapeWrong, sumWrong, spinelAddressWrong, spinelBroadcastWrong, spinelFrameRefusal, modbusFrameRefusal, bufferShort}
+use Rattle.model.specs.Refusals.{Out, ackOf, silent, ifPasses, frameLengthWrong, shapeWrong, sumWrong, spinelAddressWrong, spinelBroadcastWrong, spinelFrameRefusal, modbusFrameRefusal, bufferShort}
 use Rattle.model.specs.Spinel.{spinelAsked, spinelRequest, spinelUsed, spinelAnswered, spinelActed, spinelHandled}
 use Rattle.model.specs.Modbus.{modbusAsked, modbusUsed, modbusAnswered, modbusActed, modbusHandled}
 use Rattle.model.specs.Temperature.{readingOf, taken}
@@ -22,9 +22,9 @@ use Rattle.model.specs.declared.Reading.the-variants.{Valid, Fault}
 use Rattle.model.specs.Call.{Act, Call, sample, temperature, spinel, modbus}
 use Rattle.model.specs.Calls.{sampled, sampleCall, temperatureCall, spinelCall, modbusCall, acted, step, run}
 use Rattle.model.specs.Tally.{Tally, Event, tallied, spinelTallied, modbusTallied, ifAccepted, feed, tally, freshTally, uncollected, clears, stayed}
-use Rattle.model.specs.Cycles.{events, finalTally, counterNow, Conserved, CyclesConserved}
-use Rattle.model.proofs.Invariant.{At, Inv, fresh, sample-keeps}
-use Rattle.model.proofs.Accepted.{Good, GoodAnswer, judged-good}
+use Rattle.model.specs.Cycles.{events, finalTally, Conserved, CyclesConserved}
+use Rattle.model.proofs.Invariant.{Inv, fresh, sample-keeps}
+use Rattle.model.proofs.Accepted.{judged-good}
 use Rattle.model.proofs.SpinelKeeps.{spinel-good}
 use Rattle.model.proofs.ModbusKeeps.{modbus-good}
 

@@ -1,15 +1,15 @@
 -- What each accepted change does to the inputs keeps the invariant, whichever port it came from. Assumes nothing.
-use Prim.Native.Nat.{ℕ, zero, suc, _+_, _-_, _*_, _/_, _%_, _≤_, _<_}
+use Prim.Native.Nat.{ℕ, suc, _+_, _-_, _*_, _/_, _%_, _≤_, _<_}
 use native.Mathlib.Nat.{add-zero}
 use native.Mathlib.Omega.{arith}
 use mathlib.Core.Path.{_≡_, refl, sym, ap, _∙_}
 use mathlib.Core.List.{List, [], _∷_, _++_, foldl, map}
 use mathlib.Core.Bool.{Bool, true, false, cond, _&&_, _||_}
-use lib.ListN.{length, getD, set, drop, replicate, length-set, getD-replicate, length-map, List·getD-map}
+use lib.ListN.{length, getD, set, drop, length-set, getD-replicate, length-map, List·getD-map}
 use lib.Seq.{getD-set-same, getD-set-other, getD-drop, drop-drop}
 use lib.Dec.{leb, eqb}
 use borrow.Author.Tests.{leb-true, eqb-true, eqb-false, ne-eqb}
-use Rattle.lists.specs.Tests.{within, all}
+use Rattle.lists.specs.Tests.{all}
 use Rattle.lists.specs.Walk.{allPass}
 use Rattle.lists.specs.Numbers.{bytes}
 use Rattle.lists.specs.Entries.{Entry}
@@ -18,7 +18,7 @@ use Rattle.model.specs.declared.Inputs.{Inputs}
 use Rattle.model.specs.declared.Line.{Line}
 use Rattle.model.specs.State.{line, freshLine, withCounters, withModes, withSampling}
 use Rattle.model.specs.Counters.{isNumber, zeroes, numberIn, readOne, valuesRead, deductible, deductOne, clearedCounters, modeSettable, setMode, resetInputs}
-use Rattle.model.specs.Registers.{isZero, clearOne}
+use Rattle.model.specs.Registers.{clearOne}
 use Rattle.model.specs.Tally.{Account, withRun, withMode, collect, clear, twoAt, valueAt, takenBy, takenFrom}
 use Rattle.model.proofs.OneInput.{collectedBy, modeAfter, named}
 use Rattle.model.proofs.Invariant.{At}

@@ -1,10 +1,10 @@
 -- Every instruction, function and register group at work, with its limits: closed lists of calls and their answers. Assumes nothing.
 use mathlib.Core.Bool.{true, false}
 use mathlib.Core.Path.{refl}
-use mathlib.Core.List.{List, [], _∷_}
+use mathlib.Core.List.{[], _∷_}
 use lib.IntN.{pos, negsuc}
 use Rattle.model.specs.State.{freshModule}
-use Rattle.model.proofs.Computing.{computing, Plays, _⇒_, reply, silently, accepted, sampleOf, sampleShort, temperatureOf, spinelFrame, modbusFrame}
+use Rattle.model.proofs.Computing.{computing, Plays, _⇒_, reply, silently, accepted, sampleOf, temperatureOf, spinelFrame, modbusFrame}
 
 pub record Instructions : Type 0 where
   -- 10H, 11H and the notice: signature of the enabling request, ACK 0DH; an edge outside the mask is silent, one with mode 0 is not

@@ -1,16 +1,14 @@
 -- What the module's inputs and the tally agree in, for one input; fresh, and after a sample. Assumes nothing.
-use Prim.Native.Nat.{ℕ, zero, suc, _+_, _-_, _*_, _/_, _%_, _^_, _≤_, _<_}
+use Prim.Native.Nat.{ℕ, suc, _+_, _-_, _*_, _/_, _%_, _^_, _<_}
 use native.Mathlib.Omega.{arith}
-use mathlib.Core.Path.{_≡_, refl, sym, ap, _∙_}
-use mathlib.Core.List.{List, [], _∷_}
+use mathlib.Core.Path.{_≡_, refl, ap, _∙_}
 use mathlib.Core.Bool.{Bool, true, false, cond}
 use lib.ListN.{length, getD, replicate, getD-replicate}
-use Rattle.lists.specs.Mapi.{mapi}
 use Rattle.lists.specs.Numbers.{bitAt}
 use Rattle.lists.proofs.Done.{getD-mapi, length-mapi}
 use Rattle.model.specs.declared.Inputs.{Inputs}
 use Rattle.model.specs.declared.Line.{Line}
-use Rattle.model.specs.State.{line, freshLine, freshModule}
+use Rattle.model.specs.State.{freshLine, freshModule}
 use Rattle.model.specs.Samples.{lineSampled, linesSampled, selectedEdge, counted, countersSampled, inputsSampled}
 use Rattle.model.specs.Tally.{Tally, Account, sampledAccount, sampledBit, freshTally}
 use Rattle.model.proofs.Bridge.{account, sampled-agrees}

@@ -15,7 +15,7 @@ use Rattle.model.specs.Modbus.{modbusAsked, modbusUsed, modbusAnswered, 
 use Rattle.model.specs.Spinel.{spinelRequest, spinelAsked, spinelUsed, spinelAnswered, spinelActed, spinelHandled}
 use Rattle.model.specs.Refusals.{Request, Done, refused, judged, Out, silent, bufferShort, ifPasses, spinelFrameRefusal, modbusFrameRefusal}
 use Rattle.model.specs.Frames.{spinelTo, signatureOf, spinelBroadcast, modbusTo, functionOf, modbusBody, modbusBroadcast}
-use Rattle.model.specs.Call.{Act, Call, sample, temperature, spinel, modbus}
+use Rattle.model.specs.Call.{Act, sample, temperature, spinel, modbus}
 use Rattle.model.specs.Calls.{sampled, sampleCall, temperatureCall, spinelCall, modbusCall, acted, step}
 use Rattle.model.specs.Demand1.{Check, check, requestChecks, spinelChecks, modbusChecks, checks, RefusedBy, here, later, NoneHolds, none, also, permissionEnded, isBroadcast, refusalReply, RefusalsHold}
 use Rattle.model.proofs.Short.{spinel-short, spinel-fits, modbus-short, modbus-fits, notice-fits}

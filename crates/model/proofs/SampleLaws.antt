@@ -1,9 +1,8 @@
 -- "So an input that differs for that many samples in a row, number unchanged and no reset between, flips on the last of them."
 -- Assumes nothing.
-use Prim.Native.Nat.{ℕ, zero, suc, _+_, _≤_, _<_}
+use Prim.Native.Nat.{ℕ, zero, suc, _+_, _<_}
 use native.Mathlib.Omega.{arith}
-use native.Mathlib.Nat.{add-zero}
-use mathlib.Core.Path.{_≡_, refl, sym, ap, _∙_}
+use mathlib.Core.Path.{_≡_, refl, ap, _∙_}
 use mathlib.Core.Bool.{Bool, true, false, cond, not, Bool·beq}
 use lib.Dec.{leb}
 use borrow.Author.Tests.{le-leb, lt-leb}

@@ -2,7 +2,7 @@
 -- `Bridge`. Assumes nothing.
 use Prim.Native.Nat.{ℕ, suc, _<_}
 use mathlib.Core.Path.{_≡_, refl}
-use mathlib.Core.List.{List, [], _∷_, _++_}
+use mathlib.Core.List.{List, _∷_, _++_}
 use mathlib.Core.Bool.{Bool, true, false, true≢false}
 use lib.ListN.{length, getD, drop}
 use lib.Dec.{eqb}

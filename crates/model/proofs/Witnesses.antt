@@ -1,8 +1,8 @@
 -- A closed witness for each slip and cheat that 01 names, and for some of their kin: what the honest module answers. Assumes nothing.
 use mathlib.Core.Bool.{true, false}
 use mathlib.Core.Path.{refl}
-use mathlib.Core.List.{List, [], _∷_}
-use lib.IntN.{pos, negsuc}
+use mathlib.Core.List.{[], _∷_}
+use lib.IntN.{pos}
 use Rattle.model.specs.State.{freshModule}
 use Rattle.model.proofs.Computing.{computing, Plays, _⇒_, reply, silently, accepted, sampleOf, sampleShort, temperatureOf, spinelFrame, modbusFrame}
 

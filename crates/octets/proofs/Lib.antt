@@ -1,4 +1,3 @@
 pub mod Signed
 pub mod NoNan
-pub mod Bits
 pub mod Limit

@@ -4,7 +4,7 @@ ghost use mathlib.Core.List.{[], _∷_};
 ghost use Prim.Native.Nat.{_-_, _/_, _%_, min};
 ghost use lib.ListN.{getD, set};
 ghost use Rattle.lists.specs.Data.{dataOf, pushed, extended, held};
-ghost use Rattle.lists.specs.Numbers.{number, wordAt, bytes, bitsNumber};
+ghost use Rattle.lists.specs.Numbers.{number, wordAt, bytes};
 ghost use Rattle.model.specs.Temperature.{signedOf, patternOf, floatBits};
 use lists::Data;
 
@@ -190,20 +190,6 @@ pub fn less(a: u16, b: u16) -> u16
     ensures { λ r. ⌜ r ≡ a - b ⌝ }
 {
     if a < b { 0 } else { a - b }
-}
-
-// The number of sixteen bits, the lowest first.
-pub fn bits_word(bs: [bool; 16]) -> u16
-    ensures { λ r. ⌜ r ≡ bitsNumber bs ⌝ }
-{
-    let mut acc: u16 = 0;
-    let mut i = 16usize;
-    while 0 < i {
-        i = i - 1;
-        let b = bs[i] as u16;
-        acc = b + 2 * acc;
-    }
-    acc
 }
 
 // A refused read: no data.

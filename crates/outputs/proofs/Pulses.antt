@@ -1,13 +1,11 @@
 -- Without a pulse no output moves. Assumes nothing.
-use Prim.Native.Nat.{ℕ, _<_}
 use native.Mathlib.Omega.{arith}
-use mathlib.Core.Path.{_≡_, refl, sym, ap, _∙_}
-use mathlib.Core.Bool.{Bool, true, false, not}
+use mathlib.Core.Path.{_≡_, sym, _∙_}
+use mathlib.Core.Bool.{false}
 use mathlib.Core.List.{List, map}
 use lib.Dec.{eqb}
 use lib.ListN.{length, getD}
 use borrow.Author.Tests.{not-false}
-use Rattle.lists.specs.Tests.{someBelow}
 use Rattle.lists.proofs.Done.{mapi-map}
 use Rattle.lists.proofs.Somes.{some-false, mapi-same}
 use Rattle.model.specs.declared.Output.{Output}

@@ -1,7 +1,8 @@
 // The outputs: sets, pulses counted in samples, remaining time, holding by a thermostat.
 ghost use mathlib.Core.Path.{_≡_};
 ghost use mathlib.Core.List.{map};
-ghost use Rattle.model.specs.State.{output};
+ghost use lib.ListN.{getD};
+ghost use Rattle.model.specs.State.{output, freshThermostat};
 ghost use Rattle.model.specs.Times.{halfSecondSamples, secondSamples};
 ghost use Rattle.model.specs.Outputs.{pulsed, remaining};
 ghost use Rattle.model.specs.Temperature.{free};
@@ -96,6 +97,23 @@ pub fn remaining_time(left: u32) -> u8
         return 255;
     }
     ((left + 499) / 500) as u8
+}
+
+// The thermostat of a place, a fresh one where there is none.
+pub fn thermostat_at(hs: [Thermostat; 16], k: usize) -> Thermostat
+    ensures { λ r. ⌜ r ≡ getD hs k freshThermostat ⌝ }
+{
+    if k < 16 {
+        let h = hs[k];
+        return h;
+    }
+    Thermostat {
+        flags: 0,
+        tempx: 0,
+        tempy: 0,
+        time: Seconds(0),
+        err: 0,
+    }
 }
 
 // Whether a thermostat leaves its output to commands.

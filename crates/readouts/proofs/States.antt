@@ -1,13 +1,12 @@
--- The outputs' states as a number and as two bytes, and their set bytes. Assumes nothing.
-use Prim.Native.Nat.{ℕ, zero, suc, _+_, _*_, _-_, _^_, _<_, _≤_}
+-- The outputs' states as two bytes, and their set bytes. Assumes nothing.
+use Prim.Native.Nat.{ℕ, _+_, _-_, _<_, _≤_}
 use native.Mathlib.Omega.{arith}
-use mathlib.Core.Path.{_≡_, refl, _∙_}
+use mathlib.Core.Path.{_≡_, refl}
 use mathlib.Core.Bool.{Bool, true, false, cond}
-use mathlib.Core.List.{List, [], _∷_}
-use lib.ListN.{length, getD, drop, length-map, drop-of-length-le, List·getD-eq-default}
+use mathlib.Core.List.{List, []}
+use lib.ListN.{length, getD, List·getD-eq-default}
 use lib.Dec.{leb}
 use borrow.Author.Tests.{leb-true, leb-false}
-use mir.Val.{boolByte}
 use Rattle.lists.specs.Numbers.{bytes, bitsNumber}
 use Rattle.lists.specs.Data.{dataOf, extended}
 use Rattle.lists.proofs.DataLaws.{extend-law}
@@ -16,32 +15,9 @@ use Rattle.model.specs.declared.Output.{Output}
 use Rattle.model.specs.State.{freshOutput}
 use Rattle.model.specs.Refusals.{judged, accepting, refuse8}
 use Rattle.model.specs.Counters.{someData}
-use Rattle.model.specs.Outputs.{outputStates, readStates}
+use Rattle.model.specs.Outputs.{readStates}
 use Rattle.octets.specs.Answers.{toldOf}
-use Rattle.octets.proofs.Bits.{bits-step, below-15}
 use Rattle.readouts.specs.Answers.{statesTold}
-
-state-at : (os : List Output) (j : ℕ) → getD (outputStates os) j false ≡ getD os j freshOutput .on
-state-at [] j = refl
-state-at (o ∷ os) zero = refl
-state-at (o ∷ os) (suc j) = state-at os j
-
-module _ (os : List Output) (i : ℕ) (long : length os ≡ 16) where
-  states-long : length (outputStates os) ≡ 16
-  states-long = length-map os (λ (o : Output). o .on) ∙ long
-
-  -- one turn of the loop, from the last output down
-  pub states-turn : 0 < i → i ≤ 16
-      → boolByte (getD os (i - 1) freshOutput .on) + 2 * bitsNumber (drop i (outputStates os)) ≡ bitsNumber (drop (i - 1) (outputStates os))
-  states-turn p h = rw (← state-at os (i - 1)) (bits-step (outputStates os) i p (rw states-long h))
-
-  -- and room for one more bit
-  pub states-half : 0 < i → bitsNumber (drop i (outputStates os)) < 2 ^ 15
-  states-half p = below-15 (outputStates os) i states-long p
-
-pub states-none : (os : List Output) → length os ≡ 16 → _≡_ {A = ℕ} 0 (bitsNumber (drop 16 (outputStates os)))
-unfolding bitsNumber
-states-none os long = rw (drop-of-length-le (outputStates os) {i = 16} (rw (states-long os 0 long) (omega arith)))
 
 -- 30H, 31H of any states, by their number
 pub states-told : {P : Type 0} (p : P) (d : List ℕ) (bs : List Bool) (bits : ℕ)

@@ -15,6 +15,7 @@ use Rattle.lists.specs.declared.Data.{Data}
 use Rattle.lists.specs.Numbers.{bitsNumber}
 use Rattle.lists.specs.Chunks.{chunksOf}
 use Rattle.lists.proofs.DataLaws.{push-law}
+use Rattle.lists.proofs.Bits.{bit-most}
 use Rattle.model.specs.Refusals.{judged, accepting, refuse9}
 use Rattle.model.specs.Registers.{packed, readBits}
 use Rattle.octets.specs.Answers.{toldOf}
@@ -43,10 +44,6 @@ module _ (v n : ℕ) where
       ∙ push-law (2 ∷ v % 256 ∷ []) (v / 256) (omega arith))
 
 -- Bits of a list and of its number --------------------------------------------------------
-
-bit-most : (b : Bool) → cond b 1 0 ≤ 1
-bit-most true = omega arith
-bit-most false = omega arith
 
 -- without the first k
 bits-drop : (k : ℕ) (bs : List Bool) → bitsNumber (drop k bs) ≡ bitsNumber bs / 2 ^ k

@@ -2,10 +2,9 @@
 ghost use mathlib.Core.Path.{_≡_};
 ghost use mathlib.Core.List.{_∷_, map, flatMap};
 ghost use Prim.Native.Nat.{_+_, _-_, _*_, _^_, _≤_};
-ghost use lib.ListN.{getD, take, drop};
+ghost use lib.ListN.{take, drop};
 ghost use Rattle.lists.specs.Data.{dataOf};
 ghost use Rattle.lists.specs.Numbers.{bytes};
-ghost use Rattle.model.specs.State.{freshThermostat};
 ghost use Rattle.model.specs.Refusals.{judged};
 ghost use Rattle.model.specs.Temperature.{readingWords};
 ghost use Rattle.model.specs.Registers.{readWords, portWords, outputWord, readThermostat};
@@ -15,7 +14,6 @@ use lists::Data;
 use model::Output;
 use model::Port;
 use model::Reading;
-use model::Seconds;
 use model::Thermostat;
 use octets::Told;
 
@@ -145,24 +143,7 @@ pub fn read_input(reading: Reading, a: u16, n: u16) -> Told
 
 // Thermostats ----------------------------------------------------------------------------
 
-// The thermostat of a place, a fresh one where there is none.
-fn thermostat_at(hs: [Thermostat; 16], k: usize) -> Thermostat
-    ensures { λ r. ⌜ r ≡ getD hs k freshThermostat ⌝ }
-{
-    if k < 16 {
-        let h = hs[k];
-        return h;
-    }
-    Thermostat {
-        flags: 0,
-        tempx: 0,
-        tempy: 0,
-        time: Seconds(0),
-        err: 0,
-    }
-}
-
-// Its four words, and twelve that do not count.
+// Four words of a thermostat, and twelve that do not count.
 fn thermostat_words(h: Thermostat) -> [u16; 16]
     ensures { λ r. ⌜ r ≡ thermostatList h ⌝ }
 {
@@ -189,7 +170,7 @@ pub fn read_thermostat(hs: [Thermostat; 16], a: u16, n: u16) -> Told
     if k % 4 != 0 {
         return octets::refuse(9);
     }
-    let h = thermostat_at(hs, (k / 4) as usize);
+    let h = outputs::thermostat_at(hs, (k / 4) as usize);
     octets::tell(show_words(thermostat_words(h), 0, 4))
 }
 

@@ -18,7 +18,6 @@ use model::HalfSeconds;
 use model::Output;
 use model::Preset;
 use model::Reading;
-use model::Seconds;
 use model::Thermostat;
 
 // The answer to an instruction that switches outputs: the refusal's number or 0, and the outputs after it.
@@ -54,18 +53,7 @@ pub fn preset_at(ps: [Preset; 16], n: u8) -> Preset
 pub fn thermostat_at(hs: [Thermostat; 16], n: u8) -> Thermostat
     ensures { λ r. ⌜ r ≡ getD hs (n - 1) freshThermostat ⌝ }
 {
-    let k = octets::index_of(n);
-    if k < 16 {
-        let h = hs[k];
-        return h;
-    }
-    Thermostat {
-        flags: 0,
-        tempx: 0,
-        tempy: 0,
-        time: Seconds(0),
-        err: 0,
-    }
+    outputs::thermostat_at(hs, octets::index_of(n))
 }
 
 // Whether the thermostat of output n leaves it to commands.
@@ -169,7 +157,7 @@ fn pulse_each(time: HalfSeconds, os: [Output; 16], d: &[u8]) -> [Output; 16]
 }
 
 // An answer; a refusal's has the outputs as they were.
-fn answer(refusal: u8, os: [Output; 16]) -> Switched
+pub fn answer(refusal: u8, os: [Output; 16]) -> Switched
     ensures { λ r. ⌜ r ≡ record { refusal = refusal; outputs = os } ⌝ }
 {
     Switched {

@@ -1,8 +1,8 @@
 -- Short reply data, byte by byte. Assumes nothing.
 use Prim.Native.Nat.{ℕ}
 use native.Mathlib.Omega.{arith}
-use mathlib.Core.Path.{_≡_, refl, sym, ap, _∙_}
-use mathlib.Core.List.{List, [], _∷_, _++_}
+use mathlib.Core.Path.{_≡_, ap, _∙_}
+use mathlib.Core.List.{[], _∷_}
 use Rattle.lists.specs.declared.Data.{Data}
 use Rattle.lists.specs.Data.{dataOf, pushed, extended}
 use Rattle.lists.specs.Numbers.{bytes}

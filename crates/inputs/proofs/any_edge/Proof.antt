@@ -1,8 +1,7 @@
 -- `inputs::any_edge` meets its contract. Assumes nothing.
-use Prim.Native.Nat.{_-_, _≤_, _<_}
-use mathlib.Core.Path.{_≡_, sym, _∙_}
-use mathlib.Core.Bool.{_||_}
-use lib.ListN.{length, getD}
+use Prim.Native.Nat.{_-_, _≤_}
+use mathlib.Core.Path.{_≡_, _∙_}
+use lib.ListN.{length}
 use Rattle.lists.specs.Tests.{someBelow}
 use Rattle.lists.proofs.Somes.{some-none, some-turn}
 use Rattle.inputs.proofs.Edges.{edgeAt, any-edge}
@@ -10,9 +9,6 @@ use borrow.Author.Needs.{needs}
 use native.Mathlib.Omega.{arith}
 use Rattle.inputs.proofs.any_edge.Statement.{statement}
 use Rattle.inputs.proofs.any_edge.Tie as tie
-use Rattle.inputs.proofs.any_edge.Reads as reads
-use Rattle.inputs.proofs.any_edge.Lts as lts
-use Rattle.inputs.proofs.is_edge.Reads as is-edge-reads
 
 abbrev Inv-loop : tie.InvT-loop
 Inv-loop was now found₀ i₀ found i = (i ≤ 16) × (found ≡ someBelow (edgeAt was now) i)

@@ -1,8 +1,8 @@
 -- `inputs::any_masked` meets its contract. Assumes nothing.
-use Prim.Native.Nat.{_-_, _≤_, _<_}
-use mathlib.Core.Path.{_≡_, sym, _∙_}
-use mathlib.Core.Bool.{_&&_, _||_}
-use lib.ListN.{length, getD}
+use Prim.Native.Nat.{_-_, _≤_}
+use mathlib.Core.Path.{_≡_, _∙_}
+use mathlib.Core.Bool.{_&&_}
+use lib.ListN.{length}
 use Rattle.lists.specs.Numbers.{bitAt}
 use Rattle.lists.specs.Tests.{someBelow}
 use Rattle.lists.proofs.Somes.{some-none, some-turn}
@@ -11,10 +11,6 @@ use borrow.Author.Needs.{needs}
 use native.Mathlib.Omega.{arith}
 use Rattle.inputs.proofs.any_masked.Statement.{statement}
 use Rattle.inputs.proofs.any_masked.Tie as tie
-use Rattle.inputs.proofs.any_masked.Reads as reads
-use Rattle.inputs.proofs.any_masked.Lts as lts
-use Rattle.inputs.proofs.bit_at.Reads as bit-at-reads
-use Rattle.inputs.proofs.is_edge.Reads as is-edge-reads
 
 abbrev Inv-loop : tie.InvT-loop
 Inv-loop mask was now found₀ i₀ found i = (i ≤ 16) × (found ≡ someBelow (λ k. edgeAt was now k && bitAt mask k) i)

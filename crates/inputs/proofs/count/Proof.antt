@@ -2,9 +2,6 @@ use borrow.Author.Needs.{needs}
 use Rattle.model.specs.Samples.{counted}
 use Rattle.inputs.proofs.count.Statement.{statement}
 use Rattle.inputs.proofs.count.Tie as tie
-use Rattle.inputs.proofs.count.Reads as reads
-use Rattle.inputs.proofs.count.Lts as lts
-use Rattle.std.proofs.num.wrapping_add_u16.Reads as wrapping-add-u16-reads
 
 -- src/lib.rt:80:9
 wrapping-add-u16-requires : tie.Need-wrapping-add-u16-requires

@@ -10,10 +10,6 @@ use borrow.Author.Needs.{needs}
 use native.Mathlib.Omega.{arith}
 use Rattle.inputs.proofs.count_lines.Statement.{statement}
 use Rattle.inputs.proofs.count_lines.Tie as tie
-use Rattle.inputs.proofs.count_lines.Reads as reads
-use Rattle.inputs.proofs.count_lines.Lts as lts
-use Rattle.inputs.proofs.count.Reads as count-reads
-use Rattle.inputs.proofs.is_selected.Reads as is-selected-reads
 
 abbrev Inv-loop : tie.InvT-loop
 Inv-loop modes was now next₀ i₀ next i = (i ≤ 16) × (next ≡ done (λ k n. counted (selectedEdge (getD modes k 0) (getD was k freshLine) (getD now k freshLine)) n) i next₀)

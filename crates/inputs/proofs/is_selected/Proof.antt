@@ -3,8 +3,6 @@ use Rattle.model.specs.Samples.{selectedEdge}
 use Rattle.inputs.proofs.Edges.{selected-formula}
 use Rattle.inputs.proofs.is_selected.Statement.{statement}
 use Rattle.inputs.proofs.is_selected.Tie as tie
-use Rattle.inputs.proofs.is_selected.Reads as reads
-use Rattle.inputs.proofs.is_selected.Lts as lts
 
 returns : tie.Need-returns
 unfolding selectedEdge

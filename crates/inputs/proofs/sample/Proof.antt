@@ -1,17 +1,11 @@
 -- `inputs::sample` meets its contract. Assumes nothing.
 use borrow.Author.Needs.{needs}
-use Prim.Native.Nat.{ℕ}
-use mathlib.Core.Path.{_≡_, refl, sym, _∙_}
+use mathlib.Core.Path.{_≡_, sym, _∙_}
 use lib.ListN.{length}
 use Rattle.lists.proofs.DataLaws.{field-length}
 use Rattle.inputs.proofs.Edges.{with-edge, without-edge}
 use Rattle.inputs.proofs.sample.Statement.{statement}
 use Rattle.inputs.proofs.sample.Tie as tie
-use Rattle.inputs.proofs.sample.Reads as reads
-use Rattle.inputs.proofs.sample.Lts as lts
-use Rattle.inputs.proofs.any_edge.Reads as any-edge-reads
-use Rattle.inputs.proofs.count_lines.Reads as count-lines-reads
-use Rattle.inputs.proofs.sample_lines.Reads as sample-lines-reads
 
 sample-lines-requires : tie.Need-sample-lines-requires
 sample-lines-requires c κs = search needs

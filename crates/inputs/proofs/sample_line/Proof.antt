@@ -4,8 +4,6 @@ use borrow.Author.Needs.{needs}
 use Rattle.model.specs.Samples.{lineSampled}
 use Rattle.inputs.proofs.sample_line.Statement.{statement}
 use Rattle.inputs.proofs.sample_line.Tie as tie
-use Rattle.inputs.proofs.sample_line.Reads as reads
-use Rattle.inputs.proofs.sample_line.Lts as lts
 
 -- src/lib.rt:32:9
 returns : tie.Need-returns

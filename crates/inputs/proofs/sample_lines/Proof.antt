@@ -3,7 +3,7 @@ use Prim.Native.Nat.{_-_, _≤_, _<_}
 use mathlib.Core.Path.{_≡_, sym, _∙_}
 use native.Mathlib.Omega.{arith}
 use borrow.Author.Needs.{needs}
-use lib.ListN.{length, getD}
+use lib.ListN.{length}
 use Rattle.lists.proofs.Done.{done-none, done-turn, done-all}
 use Rattle.lists.specs.Numbers.{bitAt}
 use Rattle.model.specs.Samples.{lineSampled, linesSampled}
@@ -11,10 +11,6 @@ use Rattle.lists.specs.Mapi.{done}
 use Rattle.model.specs.State.{freshLine}
 use Rattle.inputs.proofs.sample_lines.Statement.{statement}
 use Rattle.inputs.proofs.sample_lines.Tie as tie
-use Rattle.inputs.proofs.sample_lines.Reads as reads
-use Rattle.inputs.proofs.sample_lines.Lts as lts
-use Rattle.inputs.proofs.bit_at.Reads as bit-at-reads
-use Rattle.inputs.proofs.sample_line.Reads as sample-line-reads
 
 abbrev Inv-loop : tie.InvT-loop
 Inv-loop sampling bits next₀ i₀ next i = (i ≤ 16) × (next ≡ done (λ k x. lineSampled sampling (bitAt bits k) x) i next₀)

@@ -2,10 +2,6 @@
 use borrow.Author.Needs.{needs}
 use Rattle.load.proofs.load_play.Statement.{statement}
 use Rattle.load.proofs.load_play.Tie as tie
-use Rattle.load.proofs.load_play.Reads as reads
-use Rattle.load.proofs.load_play.Lts as lts
-use Rattle.load.proofs.play.Reads as play-reads
-use Rattle.load.proofs.start.Reads as start-reads
 
 start-requires : tie.Need-start-requires
 start-requires c κs = search needs

@@ -3,9 +3,6 @@ use borrow.Author.Needs.{needs}
 use Rattle.load.specs.Play.{noisyNext}
 use Rattle.load.proofs.noisy_next.Statement.{statement}
 use Rattle.load.proofs.noisy_next.Tie as tie
-use Rattle.load.proofs.noisy_next.Reads as reads
-use Rattle.load.proofs.noisy_next.Lts as lts
-use Rattle.load.proofs.next_seed.Reads as next-seed-reads
 
 next-seed-requires : tie.Need-next-seed-requires
 next-seed-requires c κs = search needs

@@ -1,17 +1,13 @@
 -- `load::play` meets its contract. Assumes nothing.
-use Prim.Native.Nat.{_-_, _+_, _≤_, _<_}
+use Prim.Native.Nat.{_-_, _≤_}
 use native.Mathlib.Numerals.{add-one}
-use mathlib.Core.Path.{_≡_, refl, sym, ap, _∙_}
-use denote.Ref.{now}
+use mathlib.Core.Path.{_≡_, refl, _∙_}
 use lib.ListN.{length}
-use Rattle.load.specs.Play.{playOne, playMany}
+use Rattle.load.specs.Play.{playMany}
 use borrow.Author.Needs.{needs}
 use native.Mathlib.Omega.{arith}
 use Rattle.load.proofs.play.Statement.{statement}
 use Rattle.load.proofs.play.Tie as tie
-use Rattle.load.proofs.play.Reads as reads
-use Rattle.load.proofs.play.Lts as lts
-use Rattle.load.proofs.play_one.Reads as play-one-reads
 
 abbrev Inv-loop : tie.InvT-loop
 Inv-loop noisy n reply₀ q₀ i₀ reply q i = (i ≤ n) × (length reply ≡ length reply₀) × (q ≡ playMany (length reply₀) noisy i q₀)

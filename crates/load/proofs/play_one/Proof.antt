@@ -3,11 +3,6 @@ use borrow.Author.Needs.{needs}
 use Rattle.load.specs.Play.{playOne}
 use Rattle.load.proofs.play_one.Statement.{statement}
 use Rattle.load.proofs.play_one.Tie as tie
-use Rattle.load.proofs.play_one.Reads as reads
-use Rattle.load.proofs.play_one.Lts as lts
-use Rattle.iomodule.proofs.sample.Reads as sample-reads
-use Rattle.load.proofs.source_next.Reads as source-next-reads
-use Rattle.std.proofs.num.wrapping_add_u64.Reads as wrapping-add-u64-reads
 
 source-next-requires : tie.Need-source-next-requires
 source-next-requires c κs = search needs

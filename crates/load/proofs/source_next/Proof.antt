@@ -3,10 +3,6 @@ use borrow.Author.Needs.{needs}
 use Rattle.load.specs.Play.{sourceNext}
 use Rattle.load.proofs.source_next.Statement.{statement}
 use Rattle.load.proofs.source_next.Tie as tie
-use Rattle.load.proofs.source_next.Reads as reads
-use Rattle.load.proofs.source_next.Lts as lts
-use Rattle.load.proofs.noisy_next.Reads as noisy-next-reads
-use Rattle.load.proofs.typical_next.Reads as typical-next-reads
 
 noisy-next-requires : tie.Need-noisy-next-requires
 noisy-next-requires c κs = search needs

@@ -4,9 +4,6 @@ use Rattle.model.specs.State.{freshModule}
 use Rattle.load.specs.Play.{startOf}
 use Rattle.load.proofs.start.Statement.{statement}
 use Rattle.load.proofs.start.Tie as tie
-use Rattle.load.proofs.start.Reads as reads
-use Rattle.load.proofs.start.Lts as lts
-use Rattle.model.proofs.fresh.Reads as fresh-reads
 
 fresh-requires : tie.Need-fresh-requires
 fresh-requires c κs = search needs

@@ -4,9 +4,6 @@ use Rattle.load.specs.Play.{typicalNext}
 use borrow.Author.Tests.{eq-eqb, ne-eqb}
 use Rattle.load.proofs.typical_next.Statement.{statement}
 use Rattle.load.proofs.typical_next.Tie as tie
-use Rattle.load.proofs.typical_next.Reads as reads
-use Rattle.load.proofs.typical_next.Lts as lts
-use Rattle.load.proofs.next_seed.Reads as next-seed-reads
 
 next-seed-requires : tie.Need-next-seed-requires
 next-seed-requires c κs = search needs

@@ -5,8 +5,6 @@ use denote.Ref.{now}
 use lib.ListN.{List·getD-eq-default}
 use Rattle.octets.proofs.at.Statement.{statement}
 use Rattle.octets.proofs.at.Tie as tie
-use Rattle.octets.proofs.at.Reads as reads
-use Rattle.octets.proofs.at.Lts as lts
 
 shared-slice-read-result : tie.Need-shared-slice-read-result
 shared-slice-read-result c = search needs

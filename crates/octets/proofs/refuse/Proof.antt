@@ -2,9 +2,6 @@
 use borrow.Author.Needs.{needs}
 use Rattle.octets.proofs.refuse.Statement.{statement}
 use Rattle.octets.proofs.refuse.Tie as tie
-use Rattle.octets.proofs.refuse.Reads as reads
-use Rattle.octets.proofs.refuse.Lts as lts
-use Rattle.octets.proofs.empty.Reads as empty-reads
 
 empty-requires : tie.Need-empty-requires
 empty-requires c κs = search needs

@@ -6,10 +6,6 @@ use denote.Ref.{now}
 use lib.ListN.{List·getD-eq-default}
 use Rattle.octets.proofs.word_from.Statement.{statement}
 use Rattle.octets.proofs.word_from.Tie as tie
-use Rattle.octets.proofs.word_from.Reads as reads
-use Rattle.octets.proofs.word_from.Lts as lts
-use Rattle.octets.proofs.at.Reads as at-reads
-use Rattle.octets.proofs.be16.Reads as be16-reads
 
 shared-slice-read-be16 : tie.Need-shared-slice-read-be16
 shared-slice-read-be16 c = search needs

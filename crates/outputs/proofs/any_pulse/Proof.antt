@@ -1,14 +1,12 @@
 -- `outputs::any_pulse` meets its contract. Assumes nothing.
-use Prim.Native.Nat.{_-_, _≤_, _<_}
-use mathlib.Core.Path.{_≡_, sym, _∙_}
+use Prim.Native.Nat.{_-_, _≤_}
+use mathlib.Core.Path.{_≡_, _∙_}
 use Rattle.lists.specs.Tests.{someBelow}
 use Rattle.lists.proofs.Somes.{some-none, some-turn}
 use Rattle.outputs.specs.Passes.{pulseAt, anyPulse}
 use native.Mathlib.Omega.{arith}
 use Rattle.outputs.proofs.any_pulse.Statement.{statement}
 use Rattle.outputs.proofs.any_pulse.Tie as tie
-use Rattle.outputs.proofs.any_pulse.Reads as reads
-use Rattle.outputs.proofs.any_pulse.Lts as lts
 
 abbrev Inv-loop : tie.InvT-loop
 Inv-loop a found₀ i₀ found i = (i ≤ 16) × (found ≡ someBelow (pulseAt a) i)

@@ -6,8 +6,6 @@ use Rattle.model.specs.Temperature.{free}
 use Rattle.lists.proofs.Choices.{below}
 use Rattle.outputs.proofs.is_free.Statement.{statement}
 use Rattle.outputs.proofs.is_free.Tie as tie
-use Rattle.outputs.proofs.is_free.Reads as reads
-use Rattle.outputs.proofs.is_free.Lts as lts
 
 enum-known-r : tie.Need-enum-known-r
 enum-known-r c = search needs

@@ -3,10 +3,6 @@ use borrow.Author.Tests.{eq-eqb, ne-eqb}
 use Rattle.model.specs.Outputs.{pulsed}
 use Rattle.outputs.proofs.pulse.Statement.{statement}
 use Rattle.outputs.proofs.pulse.Tie as tie
-use Rattle.outputs.proofs.pulse.Reads as reads
-use Rattle.outputs.proofs.pulse.Lts as lts
-use Rattle.outputs.proofs.set.Reads as set-reads
-use Rattle.outputs.proofs.start.Reads as start-reads
 
 -- src/lib.rt:51:9
 returns : tie.Need-returns

@@ -1,7 +1,7 @@
 -- `outputs::pulse_all` meets its contract. Assumes nothing.
 use Prim.Native.Nat.{_-_, _≤_, _<_}
 use mathlib.Core.Path.{_≡_, sym, _∙_}
-use lib.ListN.{length, getD}
+use lib.ListN.{length}
 use Rattle.lists.specs.Mapi.{done}
 use Rattle.lists.proofs.Done.{done-none, done-turn, done-map}
 use Rattle.model.specs.State.{freshOutput}
@@ -10,9 +10,6 @@ use borrow.Author.Needs.{needs}
 use native.Mathlib.Omega.{arith}
 use Rattle.outputs.proofs.pulse_all.Statement.{statement}
 use Rattle.outputs.proofs.pulse_all.Tie as tie
-use Rattle.outputs.proofs.pulse_all.Reads as reads
-use Rattle.outputs.proofs.pulse_all.Lts as lts
-use Rattle.outputs.proofs.pulse.Reads as pulse-reads
 
 abbrev Inv-loop : tie.InvT-loop
 Inv-loop next₀ i₀ next i = (i ≤ 16) × (next ≡ done (λ k o. pulsed o) i next₀)

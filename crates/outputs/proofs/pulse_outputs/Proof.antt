@@ -5,10 +5,6 @@ use lib.ListN.{length}
 use Rattle.outputs.proofs.Pulses.{no-pulse}
 use Rattle.outputs.proofs.pulse_outputs.Statement.{statement}
 use Rattle.outputs.proofs.pulse_outputs.Tie as tie
-use Rattle.outputs.proofs.pulse_outputs.Reads as reads
-use Rattle.outputs.proofs.pulse_outputs.Lts as lts
-use Rattle.outputs.proofs.any_pulse.Reads as any-pulse-reads
-use Rattle.outputs.proofs.pulse_all.Reads as pulse-all-reads
 
 long : (c : tie.Start) → length (c .args .a) ≡ 16
 long c = search needs

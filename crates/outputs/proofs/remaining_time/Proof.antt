@@ -5,8 +5,6 @@ use borrow.Author.Tests.{lt-ltb, le-ltb}
 use Rattle.model.specs.Outputs.{remaining}
 use Rattle.outputs.proofs.remaining_time.Statement.{statement}
 use Rattle.outputs.proofs.remaining_time.Tie as tie
-use Rattle.outputs.proofs.remaining_time.Reads as reads
-use Rattle.outputs.proofs.remaining_time.Lts as lts
 
 -- src/lib.rt:64:9
 returns : tie.Need-returns

@@ -2,18 +2,22 @@
 use Prim.Native.Nat.{_-_, _≤_}
 use native.Mathlib.Omega.{arith}
 use mathlib.Core.Path.{_≡_, _∙_}
+use mathlib.Core.Bool.{Bool}
+use mathlib.Core.List.{map}
 use borrow.Author.Needs.{needs}
 use lib.ListN.{length, getD, drop}
 use Rattle.lists.specs.Numbers.{bitsNumber}
+use Rattle.lists.proofs.Bits.{bits-turn, bits-half, bits-none, byte-most}
+use Rattle.model.specs.declared.Output.{Output}
 use Rattle.model.specs.State.{freshOutput}
-use Rattle.model.specs.Outputs.{outputStates}
-use Rattle.octets.proofs.Bits.{byte≤}
-use Rattle.readouts.proofs.States.{states-turn, states-half, states-none}
 use Rattle.readouts.proofs.output_bits.Statement.{statement}
 use Rattle.readouts.proofs.output_bits.Tie as tie
 
+abbrev on : Output → Bool
+on o = o .on
+
 abbrev Inv-loop : tie.InvT-loop
-Inv-loop os bits₀ i₀ bits i = (i ≤ 16) × (bits ≡ bitsNumber (drop i (outputStates os)))
+Inv-loop os bits₀ i₀ bits i = (i ≤ 16) × (bits ≡ bitsNumber (map on (drop i os)))
 
 abbrev μ-loop : tie.MeasureT-loop
 μ-loop os bits₀ i₀ bits i = i
@@ -22,7 +26,7 @@ long : (c : tie.Start Inv-loop μ-loop) → length (c .args .t1) ≡ 16
 long c = search needs
 
 loop-holds : tie.Need-loop-holds Inv-loop μ-loop
-loop-holds c = (omega arith, states-none (c .args .t1) (long c))
+loop-holds c = (omega arith, bits-none on (c .args .t1) (long c))
 
 sub-i : tie.Need-sub-i Inv-loop μ-loop
 sub-i c = omega arith
@@ -40,14 +44,14 @@ mul-bits : tie.Need-mul-bits Inv-loop μ-loop
 mul-bits c =
     let l = c .before .before in
     let s = l .before .before in
-    omega (arith, l .before .loop .inv, states-half (s .args .t1) (l .before .loop .i) (long s) (l .loop-test .taken))
+    omega (arith, l .before .loop .inv, bits-half on (s .args .t1) (l .before .loop .i) (long s) (l .loop-test .taken))
 
 add-bits : tie.Need-add-bits Inv-loop μ-loop
 add-bits c =
     let l = c .before .before in
     let s = l .before .before in
     let i = l .before .loop .i in
-    omega (arith, l .before .loop .inv, states-half (s .args .t1) i (long s) (l .loop-test .taken), byte≤ (getD (s .args .t1) (i - 1) freshOutput .on))
+    omega (arith, l .before .loop .inv, bits-half on (s .args .t1) i (long s) (l .loop-test .taken), byte-most (getD (s .args .t1) (i - 1) freshOutput .on))
 
 loop-less : tie.Need-loop-less Inv-loop μ-loop
 loop-less c = omega arith
@@ -56,7 +60,8 @@ loop-again : tie.Need-loop-again Inv-loop μ-loop
 loop-again c =
     let l = c .before .before in
     let p = l .before in
-    (omega arith, rw (p .loop .inv .1) (states-turn (p .before .args .t1) (p .loop .i) (long (p .before)) (l .loop-test .taken) (p .loop .inv .0)))
+    let h : p .loop .i ≤ length (p .before .args .t1) = rw (long (p .before)) (p .loop .inv .0) in
+    (omega arith, rw (p .loop .inv .1) (bits-turn on (p .before .args .t1) freshOutput (p .loop .i) (l .loop-test .taken) h))
 
 returns : tie.Need-returns Inv-loop μ-loop
 returns c =

@@ -2,7 +2,6 @@
 use borrow.Author.Needs.{needs}
 use native.Mathlib.Omega.{arith}
 use Rattle.model.specs.Registers.{outputWord}
-use borrow.Author.Needs.{needs}
 use Rattle.registers.proofs.output_word.Statement.{statement}
 use Rattle.registers.proofs.output_word.Tie as tie
 

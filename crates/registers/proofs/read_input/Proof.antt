@@ -4,7 +4,6 @@ use mathlib.Core.Path.{refl, _∙_}
 use lib.ListN.{replicate}
 use Rattle.model.specs.Temperature.{readingWords}
 use Rattle.registers.proofs.Groups.{words-told, reading-four}
-use borrow.Author.Needs.{needs}
 use Rattle.registers.proofs.read_input.Statement.{statement}
 use Rattle.registers.proofs.read_input.Tie as tie
 

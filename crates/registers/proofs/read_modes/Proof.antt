@@ -1,6 +1,5 @@
 -- `registers::read_modes` meets its contract: modes are words. Assumes nothing.
 use borrow.Author.Needs.{needs}
-use borrow.Author.Needs.{needs}
 use Rattle.registers.proofs.read_modes.Statement.{statement}
 use Rattle.registers.proofs.read_modes.Tie as tie
 

@@ -1,6 +1,5 @@
 -- `registers::read_outputs` meets its contract: a word each. Assumes nothing.
 use borrow.Author.Needs.{needs}
-use borrow.Author.Needs.{needs}
 use Rattle.registers.proofs.read_outputs.Statement.{statement}
 use Rattle.registers.proofs.read_outputs.Tie as tie
 

@@ -4,7 +4,6 @@ use mathlib.Core.Path.{refl, _∙_}
 use lib.ListN.{replicate}
 use Rattle.model.specs.Registers.{portWords}
 use Rattle.registers.proofs.Groups.{words-told}
-use borrow.Author.Needs.{needs}
 use Rattle.registers.proofs.read_port.Statement.{statement}
 use Rattle.registers.proofs.read_port.Tie as tie
 

@@ -5,7 +5,6 @@ use native.Mathlib.Omega.{arith}
 use borrow.Author.Tests.{eq-eqb, ne-eqb}
 use Rattle.model.specs.Refusals.{judged}
 use Rattle.model.specs.Registers.{readThermostat, thermostatWords}
-use borrow.Author.Needs.{needs}
 use Rattle.registers.proofs.read_thermostat.Statement.{statement}
 use Rattle.registers.proofs.read_thermostat.Tie as tie
 

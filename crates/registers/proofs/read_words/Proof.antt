@@ -4,7 +4,6 @@ use mathlib.Core.Path.{_≡_, sym, _∙_}
 use mathlib.Core.List.{[], append-nil}
 use lib.ListN.{length}
 use Rattle.registers.proofs.Groups.{words-told}
-use borrow.Author.Needs.{needs}
 use Rattle.registers.proofs.read_words.Statement.{statement}
 use Rattle.registers.proofs.read_words.Tie as tie
 

@@ -4,10 +4,6 @@ use mir.Syntax.{w16}
 use mir.Val.{SFits}
 use mir.Facts.{toZ-ofZ}
 use Rattle.model.specs.Temperature.{readingWords}
-use borrow.Author.Needs.{needs}
-use mir.Syntax.{w16}
-use mir.Val.{SFits}
-use mir.Facts.{toZ-ofZ}
 use Rattle.registers.proofs.reading_words.Statement.{statement}
 use Rattle.registers.proofs.reading_words.Tie as tie
 

@@ -4,7 +4,6 @@ use native.Mathlib.Omega.{arith}
 use Prim.Native.Nat.{_+_, _/_, _<_}
 use mathlib.Core.Path.{_≡_}
 use Rattle.registers.proofs.Bits.{shown-0, shown-1, shown-2}
-use borrow.Author.Needs.{needs}
 use Rattle.registers.proofs.show_bits.Statement.{statement}
 use Rattle.registers.proofs.show_bits.Tie as tie
 

@@ -4,7 +4,6 @@ use mir.Syntax.{w16}
 use mir.Val.{SFits}
 use mir.Facts.{toZ-ofZ}
 use Rattle.model.specs.Registers.{thermostatWords}
-use borrow.Author.Needs.{needs}
 use Rattle.registers.proofs.thermostat_words.Statement.{statement}
 use Rattle.registers.proofs.thermostat_words.Tie as tie
 

@@ -19,7 +19,7 @@ returns-2 c =
     let f = c .before in
     let i = f .before .before .before in
     let few = sym (i .before .items-of .ensures) ∙ not-false _ (i .if1 .left) in
-    let fit = sym (f .before .before .sets-fit .ensures) ∙ not-true _ (f .if2 .taken) in
+    let fit = sym (f .before .before .sets-fit .ensures) ∙ not-true (f .before .before .sets-fit .result) (f .if2 .taken) in
     rw (c .answer2 .ensures, items-length 1 _, few, fit)
 
 returns-3 : tie.Need-returns-3
@@ -29,7 +29,7 @@ returns-3 c =
     let f = h .before in
     let i = f .before .before .before in
     let few = sym (i .before .items-of .ensures) ∙ not-false _ (i .if1 .left) in
-    let fit = sym (f .before .before .sets-fit .ensures) ∙ not-false _ (f .if2 .left) in
+    let fit = sym (f .before .before .sets-fit .ensures) ∙ not-false (f .before .before .sets-fit .result) (f .if2 .left) in
     let free = sym (f .before .sets-free .ensures) ∙ not-true _ (h .if3 .taken) in
     rw (c .answer3 .ensures, items-length 1 _, few, fit, free)
 
@@ -40,7 +40,7 @@ returns-4 c =
     let f = h .before in
     let i = f .before .before .before in
     let few = sym (i .before .items-of .ensures) ∙ not-false _ (i .if1 .left) in
-    let fit = sym (f .before .before .sets-fit .ensures) ∙ not-false _ (f .if2 .left) in
+    let fit = sym (f .before .before .sets-fit .ensures) ∙ not-false (f .before .before .sets-fit .result) (f .if2 .left) in
     let free = sym (f .before .sets-free .ensures) ∙ not-false _ (h .if3 .left) in
     rw (c .answer4 .ensures, c .before .set-each .ensures, items-length 1 _, few, fit, free)
 

@@ -4,9 +4,6 @@ use borrow.Author.Needs.{needs}
 use native.Mathlib.Omega.{arith}
 use Rattle.samples.proofs.print_counters.Statement.{statement}
 use Rattle.samples.proofs.print_counters.Tie as tie
-use Rattle.samples.proofs.print_counters.Reads as reads
-use Rattle.samples.proofs.print_counters.Lts as lts
-use Rattle.samples.proofs.print_line.Reads as print-line-reads
 
 abbrev Inv-loop : tie.InvT-loop
 Inv-loop a i₀ i = i ≤ 16

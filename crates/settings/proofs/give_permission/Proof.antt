@@ -5,9 +5,6 @@ use Rattle.model.specs.Refusals.{judged}
 use Rattle.model.specs.Counters.{givePermission}
 use Rattle.settings.proofs.give_permission.Statement.{statement}
 use Rattle.settings.proofs.give_permission.Tie as tie
-use Rattle.settings.proofs.give_permission.Reads as reads
-use Rattle.settings.proofs.give_permission.Lts as lts
-use Rattle.settings.proofs.permitted.Reads as permitted-reads
 
 keep-port-requires : tie.Need-keep-port-requires
 keep-port-requires c κs = search needs

@@ -3,9 +3,6 @@ use borrow.Author.Needs.{needs}
 use borrow.Author.Tests.{eq-eqb, ne-eqb}
 use Rattle.settings.proofs.mask_given.Statement.{statement}
 use Rattle.settings.proofs.mask_given.Tie as tie
-use Rattle.settings.proofs.mask_given.Reads as reads
-use Rattle.settings.proofs.mask_given.Lts as lts
-use Rattle.octets.proofs.word_from.Reads as word-from-reads
 
 returns : tie.Need-returns
 returns c = rw (eq-eqb _ _ (c .if1 .taken))

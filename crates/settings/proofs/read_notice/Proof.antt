@@ -6,13 +6,6 @@ use Rattle.model.specs.Notice.{readNotice}
 use Rattle.settings.proofs.Built.{byte-and-word}
 use Rattle.settings.proofs.read_notice.Statement.{statement}
 use Rattle.settings.proofs.read_notice.Tie as tie
-use Rattle.settings.proofs.read_notice.Reads as reads
-use Rattle.settings.proofs.read_notice.Lts as lts
-use Rattle.octets.proofs.empty.Reads as empty-reads
-use Rattle.octets.proofs.push.Reads as push-reads
-use Rattle.octets.proofs.push16.Reads as push16-reads
-use Rattle.octets.proofs.refuse.Reads as refuse-reads
-use Rattle.octets.proofs.tell.Reads as tell-reads
 
 refuse-requires : tie.Need-refuse-requires
 refuse-requires c κs = search needs

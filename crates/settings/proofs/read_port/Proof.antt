@@ -6,12 +6,6 @@ use Rattle.model.specs.Counters.{readPort}
 use Rattle.settings.proofs.Built.{two-bytes}
 use Rattle.settings.proofs.read_port.Statement.{statement}
 use Rattle.settings.proofs.read_port.Tie as tie
-use Rattle.settings.proofs.read_port.Reads as reads
-use Rattle.settings.proofs.read_port.Lts as lts
-use Rattle.octets.proofs.empty.Reads as empty-reads
-use Rattle.octets.proofs.push.Reads as push-reads
-use Rattle.octets.proofs.refuse.Reads as refuse-reads
-use Rattle.octets.proofs.tell.Reads as tell-reads
 
 refuse-requires : tie.Need-refuse-requires
 refuse-requires c κs = search needs

@@ -3,9 +3,6 @@ use borrow.Author.Needs.{needs}
 use Rattle.model.specs.Counters.{resetInputs}
 use Rattle.settings.proofs.reset_inputs.Statement.{statement}
 use Rattle.settings.proofs.reset_inputs.Tie as tie
-use Rattle.settings.proofs.reset_inputs.Reads as reads
-use Rattle.settings.proofs.reset_inputs.Lts as lts
-use Rattle.settings.proofs.reset_lines.Reads as reset-lines-reads
 
 reset-lines-requires : tie.Need-reset-lines-requires
 reset-lines-requires c κs = search needs

@@ -2,7 +2,7 @@
 use borrow.Author.Needs.{needs}
 use Prim.Native.Nat.{_-_, _≤_, _<_}
 use mathlib.Core.Path.{_≡_, sym, _∙_}
-use lib.ListN.{length, getD}
+use lib.ListN.{length}
 use Rattle.lists.specs.Mapi.{done}
 use Rattle.lists.proofs.Done.{done-none, done-turn, done-map}
 use Rattle.model.specs.declared.Line.{Line}
@@ -10,8 +10,6 @@ use Rattle.model.specs.State.{line, freshLine}
 use native.Mathlib.Omega.{arith}
 use Rattle.settings.proofs.reset_lines.Statement.{statement}
 use Rattle.settings.proofs.reset_lines.Tie as tie
-use Rattle.settings.proofs.reset_lines.Reads as reads
-use Rattle.settings.proofs.reset_lines.Lts as lts
 
 abbrev Inv-loop : tie.InvT-loop
 Inv-loop next₀ i₀ next i = (i ≤ 16) × (next ≡ done (λ k (y : Line). line (y .stable) 0) i next₀)

@@ -5,9 +5,6 @@ use Rattle.model.specs.Refusals.{judged}
 use Rattle.model.specs.Counters.{resetModule}
 use Rattle.settings.proofs.reset_module.Statement.{statement}
 use Rattle.settings.proofs.reset_module.Tie as tie
-use Rattle.settings.proofs.reset_module.Reads as reads
-use Rattle.settings.proofs.reset_module.Lts as lts
-use Rattle.settings.proofs.reset_state.Reads as reset-state-reads
 
 keep-module-requires : tie.Need-keep-module-requires
 keep-module-requires c κs = search needs

@@ -3,10 +3,6 @@ use borrow.Author.Needs.{needs}
 use Rattle.model.specs.Counters.{reset}
 use Rattle.settings.proofs.reset_state.Statement.{statement}
 use Rattle.settings.proofs.reset_state.Tie as tie
-use Rattle.settings.proofs.reset_state.Reads as reads
-use Rattle.settings.proofs.reset_state.Lts as lts
-use Rattle.settings.proofs.permitted.Reads as permitted-reads
-use Rattle.settings.proofs.reset_inputs.Reads as reset-inputs-reads
 
 reset-inputs-requires : tie.Need-reset-inputs-requires
 reset-inputs-requires c κs = search needs

@@ -10,10 +10,6 @@ use Rattle.model.specs.Refusals.{judged}
 use Rattle.model.specs.Notice.{setNotice}
 use Rattle.settings.proofs.set_notice.Statement.{statement}
 use Rattle.settings.proofs.set_notice.Tie as tie
-use Rattle.settings.proofs.set_notice.Reads as reads
-use Rattle.settings.proofs.set_notice.Lts as lts
-use Rattle.octets.proofs.at.Reads as at-reads
-use Rattle.settings.proofs.mask_given.Reads as mask-given-reads
 
 keep-notice-requires : tie.Need-keep-notice-requires
 keep-notice-requires c κs = search needs

@@ -9,10 +9,6 @@ use Rattle.model.specs.Refusals.{judged}
 use Rattle.model.specs.Counters.{setPort}
 use Rattle.settings.proofs.set_port.Statement.{statement}
 use Rattle.settings.proofs.set_port.Tie as tie
-use Rattle.settings.proofs.set_port.Reads as reads
-use Rattle.settings.proofs.set_port.Lts as lts
-use Rattle.octets.proofs.at.Reads as at-reads
-use Rattle.settings.proofs.reset_state.Reads as reset-state-reads
 
 keep-module-requires : tie.Need-keep-module-requires
 keep-module-requires c κs = search needs

@@ -4,11 +4,6 @@ use Rattle.model.specs.Temperature.{crossed, crossing}
 use borrow.Author.Needs.{needs}
 use Rattle.thermostat.proofs.cross.Statement.{statement}
 use Rattle.thermostat.proofs.cross.Tie as tie
-use Rattle.thermostat.proofs.cross.Reads as reads
-use Rattle.thermostat.proofs.cross.Lts as lts
-use Rattle.outputs.proofs.second_samples.Reads as second-samples-reads
-use Rattle.outputs.proofs.start.Reads as start-reads
-use Rattle.thermostat.proofs.crossed_limit.Reads as crossed-limit-reads
 
 crossed-limit-requires : tie.Need-crossed-limit-requires
 crossed-limit-requires c κs = search needs

@@ -7,10 +7,6 @@ use Rattle.model.specs.Temperature.{crossed}
 use borrow.Author.Needs.{needs}
 use Rattle.thermostat.proofs.crossed_limit.Statement.{statement}
 use Rattle.thermostat.proofs.crossed_limit.Tie as tie
-use Rattle.thermostat.proofs.crossed_limit.Reads as reads
-use Rattle.thermostat.proofs.crossed_limit.Lts as lts
-use Rattle.thermostat.proofs.fell.Reads as fell-reads
-use Rattle.thermostat.proofs.rose.Reads as rose-reads
 
 enum-known-last : tie.Need-enum-known-last
 enum-known-last c = search needs

@@ -4,9 +4,6 @@ use Rattle.thermostat.proofs.Keys.{eqb-at}
 use borrow.Author.Needs.{needs}
 use Rattle.thermostat.proofs.fail.Statement.{statement}
 use Rattle.thermostat.proofs.fail.Tie as tie
-use Rattle.thermostat.proofs.fail.Reads as reads
-use Rattle.thermostat.proofs.fail.Lts as lts
-use Rattle.outputs.proofs.set.Reads as set-reads
 
 returns : tie.Need-returns
 unfolding failed

@@ -9,9 +9,6 @@ use Rattle.model.specs.State.{freshOutput, freshThermostat}
 use Rattle.model.specs.Temperature.{failed}
 use Rattle.thermostat.proofs.fail_outputs.Statement.{statement}
 use Rattle.thermostat.proofs.fail_outputs.Tie as tie
-use Rattle.thermostat.proofs.fail_outputs.Reads as reads
-use Rattle.thermostat.proofs.fail_outputs.Lts as lts
-use Rattle.thermostat.proofs.fail.Reads as fail-reads
 
 abbrev Inv-loop : tie.InvT-loop
 Inv-loop hs next₀ i₀ next i = (i ≤ 16) × (next ≡ done (λ k. failed (getD hs k freshThermostat)) i next₀)

@@ -6,10 +6,6 @@ use Rattle.thermostat.proofs.Keys.{eqb-at}
 use borrow.Author.Needs.{needs}
 use Rattle.thermostat.proofs.heat.Statement.{statement}
 use Rattle.thermostat.proofs.heat.Tie as tie
-use Rattle.thermostat.proofs.heat.Reads as reads
-use Rattle.thermostat.proofs.heat.Lts as lts
-use Rattle.thermostat.proofs.cross.Reads as cross-reads
-use Rattle.thermostat.proofs.level.Reads as level-reads
 
 returns : tie.Need-returns
 unfolding heated

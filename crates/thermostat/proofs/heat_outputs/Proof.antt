@@ -12,9 +12,6 @@ use mir.Facts.{toZ-ofZ}
 use Rattle.model.specs.Temperature.{heated}
 use Rattle.thermostat.proofs.heat_outputs.Statement.{statement}
 use Rattle.thermostat.proofs.heat_outputs.Tie as tie
-use Rattle.thermostat.proofs.heat_outputs.Reads as reads
-use Rattle.thermostat.proofs.heat_outputs.Lts as lts
-use Rattle.thermostat.proofs.heat.Reads as heat-reads
 
 abbrev Inv-loop : tie.InvT-loop
 Inv-loop last now hs next₀ i₀ next i = (i ≤ 16) × (next ≡ done (λ k. heated last (toZ w16 now) (getD hs k freshThermostat)) i next₀)

@@ -8,9 +8,6 @@ use Rattle.model.specs.Temperature.{levelled}
 use borrow.Author.Needs.{needs}
 use Rattle.thermostat.proofs.level.Statement.{statement}
 use Rattle.thermostat.proofs.level.Tie as tie
-use Rattle.thermostat.proofs.level.Reads as reads
-use Rattle.thermostat.proofs.level.Lts as lts
-use Rattle.outputs.proofs.set.Reads as set-reads
 
 set-requires : tie.Need-set-requires
 set-requires c κs = search needs

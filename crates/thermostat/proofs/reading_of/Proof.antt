@@ -7,8 +7,6 @@ use Rattle.model.specs.Temperature.{readingOf, degrees}
 use borrow.Author.Needs.{needs}
 use Rattle.thermostat.proofs.reading_of.Statement.{statement}
 use Rattle.thermostat.proofs.reading_of.Tie as tie
-use Rattle.thermostat.proofs.reading_of.Reads as reads
-use Rattle.thermostat.proofs.reading_of.Lts as lts
 
 -- a good mark, and tenths in range
 abbrev inRange : Bool → ℤ → Bool

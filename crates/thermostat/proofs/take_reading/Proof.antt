@@ -7,10 +7,6 @@ use Rattle.thermostat.specs.Parts.{takenParts}
 use borrow.Author.Needs.{needs}
 use Rattle.thermostat.proofs.take_reading.Statement.{statement}
 use Rattle.thermostat.proofs.take_reading.Tie as tie
-use Rattle.thermostat.proofs.take_reading.Reads as reads
-use Rattle.thermostat.proofs.take_reading.Lts as lts
-use Rattle.thermostat.proofs.fail_outputs.Reads as fail-outputs-reads
-use Rattle.thermostat.proofs.heat_outputs.Reads as heat-outputs-reads
 
 enum-known-r : tie.Need-enum-known-r
 enum-known-r c = search needs
