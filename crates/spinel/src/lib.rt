@@ -4,54 +4,17 @@ ghost use Prim.Native.Nat.{_≤_};
 ghost use lib.ListN.{length};
 ghost use Rattle.model.specs.State.{withInputs, withOutputs, withPresets, withThermostats, withNotice, withSpinel, withModes, withCounters};
 ghost use Rattle.model.specs.Samples.{inputStates};
-ghost use Rattle.model.specs.Refusals.{onPart, judged, silent};
+ghost use Rattle.model.specs.Refusals.{onPart, judged};
 ghost use Rattle.model.specs.Counters.{listRead, readCounters, deductCounters, setModesList, modeShown, setSampling, readSampling, givePermission, setPort, readPort, resetModule};
 ghost use Rattle.model.specs.Outputs.{setOutputs, setPulses, setPresets, startPresets, pulseShown, presetShown, modeByte, outputStates, readStates};
 ghost use Rattle.model.specs.Notice.{setNotice, readNotice};
 ghost use Rattle.model.specs.Temperature.{readTemperature, setThermostats, readThermostats};
 ghost use Rattle.model.specs.Spinel.{spinelAsked, spinelUsed, spinelActed, spinelHandled};
-ghost use Rattle.spinel.specs.Parts.{servedOf, handledOf, plain, toldAbout, countersPut, answeredTo};
-use lists::Data;
+ghost use Rattle.answers.specs.Parts.{servedOf, handledOf};
+ghost use Rattle.spinel.specs.Parts.{answeredTo};
+use answers::Handled;
+use answers::Served;
 use model::Module;
-use octets::Told;
-use relays::Switched;
-
-// What an instruction comes to: the refusal's number or 0, the state after, and the reply's data.
-pub struct Served {
-    pub refusal: u8,
-    pub after: Module,
-    pub body: Data,
-}
-
-// What a frame comes to, whatever the lent buffer: the same, with the reply's bytes.
-pub struct Handled {
-    pub refusal: u8,
-    pub after: Module,
-    pub reply: Data,
-}
-
-// An answer without data.
-fn bare(refusal: u8, after: Module) -> Served
-    ensures { λ r. ⌜ r ≡ plain refusal after ⌝ }
-{
-    Served {
-        refusal,
-        after,
-        body: octets::empty(),
-    }
-}
-
-// An answer that only reads.
-fn told(m: Module, t: Told) -> Served
-    ensures { λ r. ⌜ r ≡ toldAbout m t ⌝ }
-{
-    let body = t.reply;
-    Served {
-        refusal: t.refusal,
-        after: m,
-        body,
-    }
-}
 
 // 10H
 fn set_notice(m: Module, signature: u8, d: &[u8]) -> Served
@@ -61,14 +24,14 @@ fn set_notice(m: Module, signature: u8, d: &[u8]) -> Served
     let notice = s.notice;
     let mut next = m;
     next.notice = notice;
-    bare(s.refusal, next)
+    answers::bare(s.refusal, next)
 }
 
 // 11H
 fn read_notice(m: Module, d: &[u8]) -> Served
     ensures { λ r. ⌜ r ≡ servedOf (judged m (readNotice (now (d .entry)) (m .notice) m)) ⌝ }
 {
-    told(m, settings::read_notice(d, m.notice))
+    answers::told(m, settings::read_notice(d, m.notice))
 }
 
 // 1AH
@@ -78,9 +41,7 @@ fn set_thermostats(m: Module, d: &[u8]) -> Served
     let hs = m.thermostats;
     let s = setpoints::set_thermostats(d, hs);
     let thermostats = s.thermostats;
-    let mut next = m;
-    next.thermostats = thermostats;
-    bare(s.refusal, next)
+    answers::put_thermostats(m, s.refusal, thermostats)
 }
 
 // 1BH
@@ -88,17 +49,7 @@ fn read_thermostats(m: Module, d: &[u8]) -> Served
     ensures { λ r. ⌜ r ≡ servedOf (judged m (readThermostats (now (d .entry)) (m .thermostats) m)) ⌝ }
 {
     let hs = m.thermostats;
-    told(m, setpoints::read_thermostats(d, hs))
-}
-
-// The outputs after an instruction.
-fn put_outputs(m: Module, s: Switched) -> Served
-    ensures { λ r. ⌜ r ≡ plain (s .refusal) (withOutputs m (s .outputs)) ⌝ }
-{
-    let outputs = s.outputs;
-    let mut next = m;
-    next.outputs = outputs;
-    bare(s.refusal, next)
+    answers::told(m, setpoints::read_thermostats(d, hs))
 }
 
 // 20H
@@ -108,7 +59,9 @@ fn set_outputs(m: Module, d: &[u8]) -> Served
     let hs = m.thermostats;
     let os = m.outputs;
     let reading = m.reading;
-    put_outputs(m, relays::set_outputs(reading, hs, d, os))
+    let s = relays::set_outputs(reading, hs, d, os);
+    let outputs = s.outputs;
+    answers::put_outputs(m, s.refusal, outputs)
 }
 
 // 23H
@@ -118,7 +71,9 @@ fn set_pulses(m: Module, d: &[u8]) -> Served
     let hs = m.thermostats;
     let os = m.outputs;
     let reading = m.reading;
-    put_outputs(m, relays::set_pulses(reading, hs, d, os))
+    let s = relays::set_pulses(reading, hs, d, os);
+    let outputs = s.outputs;
+    answers::put_outputs(m, s.refusal, outputs)
 }
 
 // 25H
@@ -129,7 +84,9 @@ fn start_presets(m: Module, d: &[u8]) -> Served
     let hs = m.thermostats;
     let os = m.outputs;
     let reading = m.reading;
-    put_outputs(m, relays::start_presets(ps, reading, hs, d, os))
+    let s = relays::start_presets(ps, reading, hs, d, os);
+    let outputs = s.outputs;
+    answers::put_outputs(m, s.refusal, outputs)
 }
 
 // 26H
@@ -141,7 +98,7 @@ fn set_presets(m: Module, d: &[u8]) -> Served
     let presets = s.presets;
     let mut next = m;
     next.presets = presets;
-    bare(s.refusal, next)
+    answers::bare(s.refusal, next)
 }
 
 // 30H
@@ -149,7 +106,7 @@ fn read_outputs(m: Module, d: &[u8]) -> Served
     ensures { λ r. ⌜ r ≡ servedOf (judged m (readStates (now (d .entry)) (outputStates (m .outputs)) m)) ⌝ }
 {
     let os = m.outputs;
-    told(m, readouts::read_states(d, readouts::output_bits(os)))
+    answers::told(m, readouts::read_states(d, readouts::output_bits(os)))
 }
 
 // 31H
@@ -158,7 +115,7 @@ fn read_inputs(m: Module, d: &[u8]) -> Served
 {
     let x = m.inputs;
     let lines = x.lines;
-    told(m, readouts::read_states(d, inputs::stable_bits(lines)))
+    answers::told(m, readouts::read_states(d, inputs::stable_bits(lines)))
 }
 
 // 33H
@@ -166,7 +123,7 @@ fn read_pulses(m: Module, d: &[u8]) -> Served
     ensures { λ r. ⌜ r ≡ servedOf (judged m (listRead (pulseShown (m .outputs)) (now (d .entry)) m)) ⌝ }
 {
     let os = m.outputs;
-    told(m, readouts::read_pulses(os, d))
+    answers::told(m, readouts::read_pulses(os, d))
 }
 
 // 36H
@@ -174,7 +131,7 @@ fn read_presets(m: Module, d: &[u8]) -> Served
     ensures { λ r. ⌜ r ≡ servedOf (judged m (listRead (presetShown (m .presets)) (now (d .entry)) m)) ⌝ }
 {
     let ps = m.presets;
-    told(m, readouts::read_presets(ps, d))
+    answers::told(m, readouts::read_presets(ps, d))
 }
 
 // 38H
@@ -183,7 +140,7 @@ fn read_output_modes(m: Module, d: &[u8]) -> Served
 {
     let hs = m.thermostats;
     let ps = m.presets;
-    told(m, readouts::read_modes(hs, ps, d))
+    answers::told(m, readouts::read_modes(hs, ps, d))
 }
 
 // 51H
@@ -191,22 +148,7 @@ fn read_temperature(m: Module, d: &[u8]) -> Served
     ensures { λ r. ⌜ r ≡ servedOf (judged m (readTemperature (now (d .entry)) (m .reading) m)) ⌝ }
 {
     let reading = m.reading;
-    told(m, setpoints::read_temperature(d, reading))
-}
-
-// The counters after an instruction.
-fn put_counters(m: Module, refusal: u8, counters: [u16; 16], body: Data) -> Served
-    ensures { λ r. ⌜ r ≡ countersPut m refusal counters body ⌝ }
-{
-    let mut x = m.inputs;
-    x.counters = counters;
-    let mut next = m;
-    next.inputs = x;
-    Served {
-        refusal,
-        after: next,
-        body,
-    }
+    answers::told(m, setpoints::read_temperature(d, reading))
 }
 
 // 60H
@@ -218,7 +160,7 @@ fn read_counters(m: Module, d: &[u8]) -> Served
     let s = counters::read_counters(cs, d);
     let after = s.counters;
     let body = s.reply;
-    put_counters(m, s.refusal, after, body)
+    answers::put_counters(m, s.refusal, after, body)
 }
 
 // 61H
@@ -229,7 +171,7 @@ fn deduct_counters(m: Module, d: &[u8]) -> Served
     let cs = x.counters;
     let s = counters::deduct_counters(cs, d);
     let after = s.counters;
-    put_counters(m, s.refusal, after, octets::empty())
+    answers::put_counters(m, s.refusal, after, octets::empty())
 }
 
 // 62H
@@ -241,7 +183,7 @@ fn set_sampling(m: Module, d: &[u8]) -> Served
     let inputs = s.inputs;
     let mut next = m;
     next.inputs = inputs;
-    bare(s.refusal, next)
+    answers::bare(s.refusal, next)
 }
 
 // 63H
@@ -249,21 +191,18 @@ fn read_sampling(m: Module, d: &[u8]) -> Served
     ensures { λ r. ⌜ r ≡ servedOf (judged m (readSampling (now (d .entry)) (m .inputs) m)) ⌝ }
 {
     let x = m.inputs;
-    told(m, counters::read_sampling(x, d))
+    answers::told(m, counters::read_sampling(x, d))
 }
 
 // 6AH
 fn set_modes(m: Module, d: &[u8]) -> Served
     ensures { λ r. ⌜ r ≡ servedOf (judged m (onPart (λ ms. withInputs m (withModes (m .inputs) ms)) (setModesList (now (d .entry)) (m .inputs .modes)))) ⌝ }
 {
-    let mut x = m.inputs;
+    let x = m.inputs;
     let ms = x.modes;
     let s = counters::set_modes(ms, d);
-    let after = s.modes;
-    x.modes = after;
-    let mut next = m;
-    next.inputs = x;
-    bare(s.refusal, next)
+    let modes = s.modes;
+    answers::put_modes(m, s.refusal, modes)
 }
 
 // 6BH
@@ -272,7 +211,7 @@ fn read_modes(m: Module, d: &[u8]) -> Served
 {
     let x = m.inputs;
     let ms = x.modes;
-    told(m, counters::read_modes(ms, d))
+    answers::told(m, counters::read_modes(ms, d))
 }
 
 // E0H
@@ -281,7 +220,7 @@ fn set_port(m: Module, permitted: bool, universal: bool, d: &[u8]) -> Served
 {
     let s = settings::set_port(permitted, universal, d, m);
     let after = s.after;
-    bare(s.refusal, after)
+    answers::bare(s.refusal, after)
 }
 
 // E3H
@@ -290,7 +229,7 @@ fn reset_module(m: Module, d: &[u8]) -> Served
 {
     let s = settings::reset_module(d, m);
     let after = s.after;
-    bare(s.refusal, after)
+    answers::bare(s.refusal, after)
 }
 
 // E4H
@@ -301,14 +240,14 @@ fn give_permission(m: Module, universal: bool, d: &[u8]) -> Served
     let spinel = s.port;
     let mut next = m;
     next.spinel = spinel;
-    bare(s.refusal, next)
+    answers::bare(s.refusal, next)
 }
 
 // F0H
 fn read_port(m: Module, d: &[u8]) -> Served
     ensures { λ r. ⌜ r ≡ servedOf (judged m (readPort (now (d .entry)) (m .spinel) m)) ⌝ }
 {
-    told(m, settings::read_port(d, m.spinel))
+    answers::told(m, settings::read_port(d, m.spinel))
 }
 
 // The instruction byte: each arm one small function.
@@ -347,7 +286,7 @@ fn serve(
         0xE3 => reset_module(m, d),
         0xE4 => give_permission(m, universal, d),
         0xF0 => read_port(m, d),
-        _ => bare(7, m),
+        _ => answers::bare(7, m),
     }
 }
 
@@ -382,18 +321,6 @@ fn answer(own: u8, to: u8, signature: u8, s: Served) -> Handled
     }
 }
 
-// A frame that fails 2 to 6: nothing changes, and there is no reply.
-fn unheard(refusal: u8, m: Module) -> Handled
-    ensures { λ r. ⌜ r ≡ handledOf (silent refusal m) ⌝ }
-{
-    let after = m;
-    Handled {
-        refusal,
-        after,
-        reply: octets::empty(),
-    }
-}
-
 // A frame that passes 2 to 6.
 fn act(m: Module, frame: &[u8]) -> Handled
     requires { ⌜ 9 ≤ length (now frame) ⌝ }
@@ -422,7 +349,7 @@ pub fn handle(m: Module, frame: &[u8]) -> Handled
     let port = m.spinel;
     let refusal = frames::spinel_refusal(port.address, frame);
     if refusal != 0 {
-        return unheard(refusal, m);
+        return answers::unheard(refusal, m);
     }
     act(m, frame)
 }

@@ -3,7 +3,8 @@ use borrow.Author.Needs.{needs}
 use denote.Ref.{now}
 use Rattle.model.specs.Counters.{deductCounters}
 use Rattle.model.specs.State.{withInputs, withCounters}
-use Rattle.spinel.proofs.Laws.{part-law, deduct-plain}
+use Rattle.answers.proofs.Laws.{part-law}
+use Rattle.spinel.proofs.Laws.{deduct-plain}
 use Rattle.spinel.proofs.deduct_counters.Statement.{statement}
 use Rattle.spinel.proofs.deduct_counters.Tie as tie
 

@@ -4,7 +4,7 @@ use mathlib.Core.Path.{refl}
 use denote.Ref.{now}
 use Rattle.model.specs.Counters.{givePermission}
 use Rattle.model.specs.State.{withSpinel}
-use Rattle.spinel.proofs.Laws.{part-law}
+use Rattle.answers.proofs.Laws.{part-law}
 use Rattle.spinel.proofs.give_permission.Statement.{statement}
 use Rattle.spinel.proofs.give_permission.Tie as tie
 

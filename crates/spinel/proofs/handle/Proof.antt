@@ -4,8 +4,8 @@ use mathlib.Core.Path.{sym, ap, _∙_}
 use denote.Ref.{now}
 use Rattle.model.specs.Spinel.{spinelActed, spinelHandled}
 use Rattle.frames.proofs.Passing.{spinel-passes}
-use Rattle.spinel.specs.Parts.{handledOf}
-use Rattle.spinel.proofs.Laws.{refused-law}
+use Rattle.answers.specs.Parts.{handledOf}
+use Rattle.answers.proofs.Laws.{refused-law}
 use Rattle.spinel.proofs.handle.Statement.{statement}
 use Rattle.spinel.proofs.handle.Tie as tie
 

@@ -3,7 +3,7 @@ use borrow.Author.Needs.{needs}
 use denote.Ref.{now}
 use Rattle.model.specs.Counters.{readCounters}
 use Rattle.model.specs.State.{withInputs, withCounters}
-use Rattle.spinel.proofs.Laws.{whole-law}
+use Rattle.answers.proofs.Laws.{whole-law}
 use Rattle.spinel.proofs.read_counters.Statement.{statement}
 use Rattle.spinel.proofs.read_counters.Tie as tie
 

@@ -5,7 +5,7 @@ use denote.Ref.{now}
 use Rattle.model.specs.Outputs.{readStates}
 use Rattle.model.specs.Samples.{inputStates}
 use Rattle.readouts.proofs.States.{states-told}
-use Rattle.spinel.proofs.Laws.{told-law}
+use Rattle.answers.proofs.Laws.{told-law}
 use Rattle.inputs.specs.Passes.{stableBits}
 use Rattle.spinel.proofs.read_inputs.Statement.{statement}
 use Rattle.spinel.proofs.read_inputs.Tie as tie

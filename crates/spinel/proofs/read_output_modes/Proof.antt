@@ -3,7 +3,7 @@ use borrow.Author.Needs.{needs}
 use denote.Ref.{now}
 use Rattle.model.specs.Counters.{listRead}
 use Rattle.model.specs.Outputs.{modeByte}
-use Rattle.spinel.proofs.Laws.{told-law}
+use Rattle.answers.proofs.Laws.{told-law}
 use Rattle.spinel.proofs.read_output_modes.Statement.{statement}
 use Rattle.spinel.proofs.read_output_modes.Tie as tie
 

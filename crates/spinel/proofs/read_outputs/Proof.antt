@@ -5,7 +5,7 @@ use denote.Ref.{now}
 use Rattle.model.specs.Outputs.{readStates}
 use Rattle.model.specs.Outputs.{outputStates}
 use Rattle.readouts.proofs.States.{states-told}
-use Rattle.spinel.proofs.Laws.{told-law}
+use Rattle.answers.proofs.Laws.{told-law}
 use Rattle.spinel.proofs.read_outputs.Statement.{statement}
 use Rattle.spinel.proofs.read_outputs.Tie as tie
 

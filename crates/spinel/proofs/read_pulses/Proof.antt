@@ -3,7 +3,7 @@ use borrow.Author.Needs.{needs}
 use denote.Ref.{now}
 use Rattle.model.specs.Counters.{listRead}
 use Rattle.model.specs.Outputs.{pulseShown}
-use Rattle.spinel.proofs.Laws.{told-law}
+use Rattle.answers.proofs.Laws.{told-law}
 use Rattle.spinel.proofs.read_pulses.Statement.{statement}
 use Rattle.spinel.proofs.read_pulses.Tie as tie
 

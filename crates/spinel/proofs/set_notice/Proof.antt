@@ -4,7 +4,7 @@ use mathlib.Core.Path.{refl}
 use denote.Ref.{now}
 use Rattle.model.specs.Notice.{setNotice}
 use Rattle.model.specs.State.{withNotice}
-use Rattle.spinel.proofs.Laws.{part-law}
+use Rattle.answers.proofs.Laws.{part-law}
 use Rattle.spinel.proofs.set_notice.Statement.{statement}
 use Rattle.spinel.proofs.set_notice.Tie as tie
 

@@ -4,7 +4,7 @@ use mathlib.Core.Path.{refl}
 use denote.Ref.{now}
 use Rattle.model.specs.Outputs.{setOutputs, actOn}
 use Rattle.model.specs.State.{withOutputs}
-use Rattle.spinel.proofs.Laws.{part-law}
+use Rattle.answers.proofs.Laws.{part-law}
 use Rattle.spinel.proofs.set_outputs.Statement.{statement}
 use Rattle.spinel.proofs.set_outputs.Tie as tie
 
@@ -17,8 +17,8 @@ put-outputs-requires c κs = search needs
 returns : tie.Need-returns
 unfolding setOutputs actOn
 returns c =
-    let a = c .before .before .before .before .before .args in
-    rw (c .put-outputs .ensures, c .before .set-outputs .ensures) (part-law (withOutputs (a .m)) (a .m .outputs) (setOutputs (a .m .reading) (a .m .thermostats) (now (a .d)) (a .m .outputs)) refl)
+    let a = c .before .before .before .before .before .before .args in
+    rw (c .put-outputs .ensures, c .before .before .set-outputs .ensures) (part-law (withOutputs (a .m)) (a .m .outputs) (setOutputs (a .m .reading) (a .m .thermostats) (now (a .d)) (a .m .outputs)) refl)
 
 pub set-outputs-spec : {M : Type 1} → statement M
 set-outputs-spec = tie.close (tie.spec set-outputs-requires put-outputs-requires returns)

@@ -4,7 +4,7 @@ use mathlib.Core.Path.{refl}
 use denote.Ref.{now}
 use Rattle.model.specs.Outputs.{setPresets}
 use Rattle.model.specs.State.{withPresets}
-use Rattle.spinel.proofs.Laws.{part-law}
+use Rattle.answers.proofs.Laws.{part-law}
 use Rattle.spinel.proofs.set_presets.Statement.{statement}
 use Rattle.spinel.proofs.set_presets.Tie as tie
 

@@ -4,7 +4,7 @@ use mathlib.Core.Path.{refl}
 use denote.Ref.{now}
 use Rattle.model.specs.Counters.{setSampling}
 use Rattle.model.specs.State.{withInputs}
-use Rattle.spinel.proofs.Laws.{part-law}
+use Rattle.answers.proofs.Laws.{part-law}
 use Rattle.spinel.proofs.set_sampling.Statement.{statement}
 use Rattle.spinel.proofs.set_sampling.Tie as tie
 

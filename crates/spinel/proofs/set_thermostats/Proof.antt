@@ -4,21 +4,21 @@ use mathlib.Core.Path.{refl}
 use denote.Ref.{now}
 use Rattle.model.specs.Temperature.{setThermostats}
 use Rattle.model.specs.State.{withThermostats}
-use Rattle.spinel.proofs.Laws.{part-law}
+use Rattle.answers.proofs.Laws.{part-law}
 use Rattle.spinel.proofs.set_thermostats.Statement.{statement}
 use Rattle.spinel.proofs.set_thermostats.Tie as tie
 
 set-thermostats-requires : tie.Need-set-thermostats-requires
 set-thermostats-requires c κs = search needs
 
-bare-requires : tie.Need-bare-requires
-bare-requires c κs = search needs
+put-thermostats-requires : tie.Need-put-thermostats-requires
+put-thermostats-requires c κs = search needs
 
 returns : tie.Need-returns
 unfolding setThermostats
 returns c =
     let a = c .before .before .before .before .before .args in
-    rw (c .bare .ensures, c .before .before .set-thermostats .ensures) (part-law (withThermostats (a .m)) (a .m .thermostats) (setThermostats (now (a .d)) (a .m .thermostats)) refl)
+    rw (c .put-thermostats .ensures, c .before .before .set-thermostats .ensures) (part-law (withThermostats (a .m)) (a .m .thermostats) (setThermostats (now (a .d)) (a .m .thermostats)) refl)
 
 pub set-thermostats-spec : {M : Type 1} → statement M
-set-thermostats-spec = tie.close (tie.spec set-thermostats-requires bare-requires returns)
+set-thermostats-spec = tie.close (tie.spec set-thermostats-requires put-thermostats-requires returns)

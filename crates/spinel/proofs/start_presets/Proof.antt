@@ -4,7 +4,7 @@ use mathlib.Core.Path.{refl}
 use denote.Ref.{now}
 use Rattle.model.specs.Outputs.{startPresets, actOn}
 use Rattle.model.specs.State.{withOutputs}
-use Rattle.spinel.proofs.Laws.{part-law}
+use Rattle.answers.proofs.Laws.{part-law}
 use Rattle.spinel.proofs.start_presets.Statement.{statement}
 use Rattle.spinel.proofs.start_presets.Tie as tie
 
@@ -17,8 +17,8 @@ put-outputs-requires c κs = search needs
 returns : tie.Need-returns
 unfolding startPresets actOn
 returns c =
-    let a = c .before .before .before .before .before .before .args in
-    rw (c .put-outputs .ensures, c .before .start-presets .ensures) (part-law (withOutputs (a .m)) (a .m .outputs) (startPresets (a .m .presets) (a .m .reading) (a .m .thermostats) (now (a .d)) (a .m .outputs)) refl)
+    let a = c .before .before .before .before .before .before .before .args in
+    rw (c .put-outputs .ensures, c .before .before .start-presets .ensures) (part-law (withOutputs (a .m)) (a .m .outputs) (startPresets (a .m .presets) (a .m .reading) (a .m .thermostats) (now (a .d)) (a .m .outputs)) refl)
 
 pub start-presets-spec : {M : Type 1} → statement M
 start-presets-spec = tie.close (tie.spec start-presets-requires put-outputs-requires returns)

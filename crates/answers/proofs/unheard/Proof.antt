@@ -1,7 +1,7 @@
--- `spinel::unheard` meets its contract. Assumes nothing.
+-- `answers::unheard` meets its contract. Assumes nothing.
 use borrow.Author.Needs.{needs}
-use Rattle.spinel.proofs.unheard.Statement.{statement}
-use Rattle.spinel.proofs.unheard.Tie as tie
+use Rattle.answers.proofs.unheard.Statement.{statement}
+use Rattle.answers.proofs.unheard.Tie as tie
 
 empty-requires : tie.Need-empty-requires
 empty-requires c κs = search needs

@@ -1,7 +1,7 @@
--- `spinel::bare` meets its contract. Assumes nothing.
+-- `answers::bare` meets its contract. Assumes nothing.
 use borrow.Author.Needs.{needs}
-use Rattle.spinel.proofs.bare.Statement.{statement}
-use Rattle.spinel.proofs.bare.Tie as tie
+use Rattle.answers.proofs.bare.Statement.{statement}
+use Rattle.answers.proofs.bare.Tie as tie
 
 empty-requires : tie.Need-empty-requires
 empty-requires c κs = search needs

@@ -1,0 +1,67 @@
+-- From a part's answer to the module's, and to the frame's. Assumes nothing.
+use Prim.Native.Nat.{ℕ, zero, suc}
+use mathlib.Core.Path.{_≡_, refl, sym, ap, _∙_}
+use mathlib.Core.Bool.{Bool, true, false, cond, _||_}
+use mathlib.Core.List.{List, []}
+use Rattle.lists.specs.Data.{dataOf}
+use Rattle.lists.proofs.Choices.{cond-case}
+use Rattle.octets.specs.Answers.{toldOf}
+use Rattle.model.specs.declared.Module.{Module}
+use Rattle.model.specs.Refusals.{Request, refuse8, onPart, Done, refused, judged, Out, silent, ifPasses}
+use Rattle.model.proofs.Judged.{judged-part}
+use Rattle.answers.specs.Parts.{servedOf, plain, toldAbout}
+
+-- a request without data is answered without
+no-data : {P : Type 0} (p : P) (q : Request P) → q .reply ≡ [] → judged p q .reply ≡ []
+unfolding judged
+no-data {P} p q e =
+    cond-case R (q .unlisted) _ _ (λ _. refl) λ _.
+    cond-case R (q .lengthWrong) _ _ (λ _. refl) λ _.
+    cond-case R (q .rangeWrong) _ _ (λ _. refl) λ _.
+    cond-case R (q .notPermitted) _ _ (λ _. refl) λ _.
+    cond-case R (q .valueWrong) _ _ (λ _. refl) λ _.
+    cond-case R (q .held) _ _ (λ _. refl) λ _. e
+  where
+    R : Done P → Type 0
+    R o = o .reply ≡ []
+
+module _ {P : Type 0} (put : P → Module) (p : P) (q : Request P) where
+  -- a part with its reply's data
+  pub whole-law : record { refusal = judged p q .refusal; after = put (judged p q .part); body = dataOf (judged p q .reply) } ≡ servedOf (judged (put p) (onPart put q))
+  whole-law = sym (ap servedOf (judged-part put p q))
+
+  -- a part without data
+  pub part-law : q .reply ≡ [] → plain (judged p q .refusal) (put (judged p q .part)) ≡ servedOf (judged (put p) (onPart put q))
+  part-law e = ap (λ (l : List ℕ). record { refusal = judged p q .refusal; after = put (judged p q .part); body = dataOf l }) (sym (no-data p q e)) ∙ whole-law
+
+-- what only reads, whatever part stands for the module
+pub told-law : {P : Type 0} (m : Module) (p : P) (q : Request P) → toldAbout m (toldOf (judged p q)) ≡ servedOf (judged m (onPart (λ _. m) q))
+told-law m p q = sym (ap servedOf (judged-part (λ _. m) p q))
+
+-- no reply, or one
+pub both : (b : Bool) (l : List ℕ) → cond b (dataOf []) (dataOf l) ≡ dataOf (cond b [] l)
+both true l = refl
+both false l = refl
+
+-- a frame that fails a check
+pub refused-law : (n : ℕ) (m : Module) (o : Out) → (n ≡ 0 → ⊥) → silent n m ≡ ifPasses n m o
+refused-law zero m o h = absurd (h refl)
+refused-law (suc n) m o h = refl
+
+or-on : (a : Bool) → (a || true) ≡ true
+or-on true = refl
+or-on false = refl
+
+or-off : (a : Bool) → (a || false) ≡ a
+or-off true = refl
+or-off false = refl
+
+-- condition 8, first of those that a listed function may break
+module _ {P : Type 0} (p : P) (q : Request P) (wrong : Bool) where
+  pub length-refused : wrong ≡ true → q .unlisted ≡ false → refused 8 p ≡ judged p (refuse8 wrong q)
+  unfolding judged
+  length-refused e h = rw (e, h, or-on (q .lengthWrong))
+
+  pub length-right : wrong ≡ false → judged p q ≡ judged p (refuse8 wrong q)
+  unfolding judged
+  length-right e = rw (e, or-off (q .lengthWrong))
