@@ -1,2 +1,5 @@
 pub mod Words
+pub mod InTurn
 pub mod Modes
+pub mod Clears
+pub mod Ports

@@ -1,22 +1,25 @@
 // The register groups that Modbus writes, each on no more of the state than it may change. The values are lent as bytes, two each.
 ghost use mathlib.Core.Path.{_≡_};
-ghost use Prim.Native.Nat.{_≤_};
+ghost use Prim.Native.Nat.{_≤_, _-_};
 ghost use lib.ListN.{getD, set};
-ghost use Rattle.lists.specs.Entries.{numbered};
+ghost use Rattle.lists.specs.Entries.{entry, numbered};
 ghost use Rattle.model.specs.Refusals.{judged};
 ghost use Rattle.model.specs.Counters.{deduct, setModes};
-ghost use Rattle.model.specs.Registers.{writePermission, writeDeductions, writeModes, wordsThermostat, writeThermostat};
+ghost use Rattle.model.specs.Registers.{writePermission, portSettable, setPortField, writePort, writeCounters};
+ghost use Rattle.model.specs.Registers.{writeDeductions, writeModes, wordsThermostat, writeThermostat};
 ghost use Rattle.model.specs.Modbus.{words};
 ghost use Rattle.counters.specs.Answers.{judgedOf, modedOf};
 ghost use Rattle.setpoints.specs.Parts.{thermostatsSetOf};
-ghost use Rattle.settings.specs.Parts.{portSetOf};
-ghost use Rattle.writes.specs.Answers.{thermostatTaken};
+ghost use Rattle.settings.specs.Parts.{portSetOf, moduleSetOf};
+ghost use Rattle.writes.specs.Answers.{thermostatTaken, countersCleared, portTaken};
 use counters::Judged;
 use counters::Moded;
+use model::Module;
 use model::Port;
 use model::Seconds;
 use model::Thermostat;
 use setpoints::ThermostatsSet;
+use settings::ModuleSet;
 use settings::PortSet;
 
 // The value at a place, or 0 past the end.
@@ -210,4 +213,124 @@ pub fn write_modes(a: u16, d: &[u8], ms: [u8; 16]) -> Moded
     }
     let first = octets::less(a, 299) as u8;
     modes_from(first, d, ms)
+}
+
+// The counter of an input cleared, where the number has one.
+fn clear_at(cs: [u16; 16], n: usize) -> [u16; 16]
+    ensures { λ r. ⌜ r ≡ set cs (n - 1) 0 ⌝ }
+{
+    if n < 1 {
+        return octets::with_word(cs, 0, 0);
+    }
+    octets::with_word(cs, n - 1, 0)
+}
+
+// 100 to 115: zeros in turn from input `first` on clear, on a copy.
+fn clear_from(first: u16, d: &[u8], cs: [u16; 16]) -> Judged
+    ensures { λ r. ⌜ r ≡ countersCleared first (words (now (d .entry))) cs ⌝ }
+{
+    let mut copy = cs;
+    let mut n = first as usize;
+    let mut i = 0;
+    while 1 < d.len() - i {
+        let v = octets::be16(d[i], d[i + 1]);
+        if v != 0 {
+            return Judged {
+                refusal: 11,
+                counters: cs,
+            };
+        }
+        let next = clear_at(copy, n);
+        copy = next;
+        n += 1;
+        i += 2;
+    }
+    Judged {
+        refusal: 0,
+        counters: copy,
+    }
+}
+
+// 100 to 115: zeros from register a on.
+pub fn write_counters(a: u16, d: &[u8], cs: [u16; 16]) -> Judged
+    ensures { λ r. ⌜ r ≡ judgedOf (judged cs (writeCounters a (words (now (d .entry))) cs)) ⌝ }
+{
+    if 116 < (a as usize) + d.len() / 2 {
+        return Judged {
+            refusal: 9,
+            counters: cs,
+        };
+    }
+    let first = octets::less(a, 99);
+    clear_from(first, d, cs)
+}
+
+// Whether the value is an address, for register 1, or a speed.
+fn port_settable(n: usize, v: u16) -> bool
+    ensures { λ r. ⌜ r ≡ portSettable (entry n v) ⌝ }
+{
+    if n == 1 {
+        return (1 <= v) & (v <= 247);
+    }
+    (3 <= v) & (v <= 10)
+}
+
+// A port with its address set, for register 1, or its speed.
+fn set_port_field(p: Port, n: usize, v: u8) -> Port
+    ensures { λ r. ⌜ r ≡ setPortField p (entry n v) ⌝ }
+{
+    let mut next = p;
+    if n == 1 {
+        next.address = v;
+        return next;
+    }
+    next.speed = v;
+    next
+}
+
+// 1 to 2: address and speed in turn from register `first` on, on a copy, then the reset.
+fn port_from(first: u16, d: &[u8], m: Module) -> ModuleSet
+    ensures { λ r. ⌜ r ≡ portTaken first (words (now (d .entry))) m ⌝ }
+{
+    let mut copy = m.modbus;
+    let mut n = first as usize;
+    let mut i = 0;
+    while 1 < d.len() - i {
+        let v = octets::be16(d[i], d[i + 1]);
+        if !port_settable(n, v) {
+            return ModuleSet {
+                refusal: 11,
+                after: m,
+            };
+        }
+        copy = set_port_field(copy, n, v as u8);
+        n += 1;
+        i += 2;
+    }
+    let mut next = m;
+    next.modbus = copy;
+    let reset = settings::reset_state(next);
+    ModuleSet {
+        refusal: 0,
+        after: reset,
+    }
+}
+
+// 1 to 2: address and speed by permission, from register a on.
+pub fn write_port(permitted: bool, a: u16, d: &[u8], m: Module) -> ModuleSet
+    ensures { λ r. ⌜ r ≡ moduleSetOf (judged m (writePort permitted a (words (now (d .entry))) m)) ⌝ }
+{
+    if 3 < (a as usize) + d.len() / 2 {
+        return ModuleSet {
+            refusal: 9,
+            after: m,
+        };
+    }
+    if !permitted {
+        return ModuleSet {
+            refusal: 10,
+            after: m,
+        };
+    }
+    port_from(a, d, m)
 }

@@ -6,11 +6,11 @@ use denote.Ref.{now}
 use lib.ListN.{length, drop}
 use borrow.Author.Tests.{not-true, not-false}
 use Rattle.lists.specs.Entries.{numbered}
-use Rattle.lists.proofs.Walks.{turn-goes, turn-stops, turn-ends}
 use Rattle.model.specs.Counters.{deductible, deductOne}
 use Rattle.model.specs.Modbus.{words}
 use Rattle.counters.proofs.Deductions.{deducted, notDeducted, deducting, deduct-walk}
-use Rattle.writes.proofs.Words.{numbered-first, numbered-none, deductible-most}
+use Rattle.writes.proofs.Words.{deductible-most}
+use Rattle.writes.proofs.InTurn.{value-goes, value-stops, values-end}
 use Rattle.writes.proofs.deduct_from.Statement.{statement}
 use Rattle.writes.proofs.deduct_from.Tie as tie
 
@@ -47,7 +47,7 @@ returns c =
     let at = f .before .before .before .before .before in
     let from = at .before .before .args in
     let over = rw (f .before .be16 .ensures) at (sym (f .fits-at .ensures) ∙ not-true _ (c .if1 .taken)) in
-    turn-stops deductible deductOne deducted (notDeducted (from .cs)) (at .loop .copy) _ _ _ (numbered-first (now (from .d)) (at .loop .i) (at .loop .n) (omega arith)) over
+    value-stops deductible deductOne deducted (notDeducted (from .cs)) (now (from .d)) (at .loop .i) (at .loop .n) (at .loop .copy) (omega arith) over
     ∙ at .loop .inv .1
     ∙ deduct-walk (from .cs) (numbered (from .first) (words (now (from .d))))
 
@@ -72,13 +72,13 @@ loop-again c =
     let at = f .before .before .before .before .before in
     let from = at .before .before .args in
     let fit = rw (f .before .be16 .ensures) at (sym (f .fits-at .ensures) ∙ not-false _ (c .before .if1 .left)) in
-    (omega arith, rw (c .deduct-at .ensures, f .before .be16 .ensures) (turn-goes deductible deductOne deducted (notDeducted (from .cs)) (at .loop .copy) _ _ _ (numbered-first (now (from .d)) (at .loop .i) (at .loop .n) (omega arith)) fit ∙ at .loop .inv .1))
+    (omega arith, rw (c .deduct-at .ensures, f .before .be16 .ensures) (value-goes deductible deductOne deducted (notDeducted (from .cs)) (now (from .d)) (at .loop .i) (at .loop .n) (at .loop .copy) (omega arith) fit ∙ at .loop .inv .1))
 
 returns-2 : tie.Need-returns-2 Inv-loop μ-loop
 returns-2 c =
     let at = c .before in
     let from = at .before .before .args in
-    turn-ends deductible deductOne deducted (notDeducted (from .cs)) (at .loop .copy) _ (numbered-none (now (from .d)) (at .loop .i) (at .loop .n) (omega arith))
+    values-end deductible deductOne deducted (notDeducted (from .cs)) (now (from .d)) (at .loop .i) (at .loop .n) (at .loop .copy) (omega arith)
     ∙ at .loop .inv .1
     ∙ deduct-walk (from .cs) (numbered (from .first) (words (now (from .d))))
 

@@ -6,11 +6,11 @@ use denote.Ref.{now}
 use lib.ListN.{length, drop}
 use borrow.Author.Tests.{not-true, not-false}
 use Rattle.lists.specs.Entries.{numbered}
-use Rattle.lists.proofs.Walks.{turn-goes, turn-stops, turn-ends}
-use Rattle.model.specs.Counters.{setMode}
+use Rattle.lists.proofs.Walks.{onCopy}
+use Rattle.model.specs.Counters.{modeSettable, setMode}
 use Rattle.model.specs.Modbus.{words}
-use Rattle.writes.proofs.Words.{numbered-first, numbered-none}
-use Rattle.writes.proofs.Modes.{settable-number, settable-mode, settableOn, moded, notModed, setting, modes-walk}
+use Rattle.writes.proofs.InTurn.{value-goes, value-stops, values-end}
+use Rattle.writes.proofs.Modes.{settable-number, settable-mode, moded, setting, modes-taken}
 use Rattle.writes.proofs.modes_from.Statement.{statement}
 use Rattle.writes.proofs.modes_from.Tie as tie
 
@@ -47,9 +47,9 @@ returns c =
     let at = f .before .before .before .before .before in
     let from = at .before .before .args in
     let bad = rw (f .before .be16 .ensures) at (sym (f .mode-settable .ensures) ∙ not-true _ (c .if1 .taken)) in
-    turn-stops settableOn setMode moded (notModed (from .ms)) (at .loop .copy) _ _ _ (numbered-first (now (from .d)) (at .loop .i) (at .loop .n) (omega arith)) bad
+    value-stops (onCopy modeSettable) setMode (moded 0) (moded 11 (from .ms)) (now (from .d)) (at .loop .i) (at .loop .n) (at .loop .copy) (omega arith) bad
     ∙ at .loop .inv .1
-    ∙ modes-walk (from .ms) (numbered (from .first) (words (now (from .d))))
+    ∙ modes-taken (from .ms) (numbered (from .first) (words (now (from .d))))
 
 cast-set-mode-at : tie.Need-cast-set-mode-at Inv-loop μ-loop
 cast-set-mode-at c =
@@ -78,15 +78,15 @@ loop-again c =
     let at = f .before .before .before .before .before in
     let from = at .before .before .args in
     let good = rw (f .before .be16 .ensures) at (sym (f .mode-settable .ensures) ∙ not-false _ (c .before .if1 .left)) in
-    (omega arith, rw (c .set-mode-at .ensures, f .before .be16 .ensures) (turn-goes settableOn setMode moded (notModed (from .ms)) (at .loop .copy) _ _ _ (numbered-first (now (from .d)) (at .loop .i) (at .loop .n) (omega arith)) good ∙ at .loop .inv .1))
+    (omega arith, rw (c .set-mode-at .ensures, f .before .be16 .ensures) (value-goes (onCopy modeSettable) setMode (moded 0) (moded 11 (from .ms)) (now (from .d)) (at .loop .i) (at .loop .n) (at .loop .copy) (omega arith) good ∙ at .loop .inv .1))
 
 returns-2 : tie.Need-returns-2 Inv-loop μ-loop
 returns-2 c =
     let at = c .before in
     let from = at .before .before .args in
-    turn-ends settableOn setMode moded (notModed (from .ms)) (at .loop .copy) _ (numbered-none (now (from .d)) (at .loop .i) (at .loop .n) (omega arith))
+    values-end (onCopy modeSettable) setMode (moded 0) (moded 11 (from .ms)) (now (from .d)) (at .loop .i) (at .loop .n) (at .loop .copy) (omega arith)
     ∙ at .loop .inv .1
-    ∙ modes-walk (from .ms) (numbered (from .first) (words (now (from .d))))
+    ∙ modes-taken (from .ms) (numbered (from .first) (words (now (from .d))))
 
 pub modes-from-spec : {M : Type 1} → statement M
 modes-from-spec =

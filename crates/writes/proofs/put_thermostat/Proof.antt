@@ -4,7 +4,6 @@ use native.Mathlib.Omega.{arith}
 use mathlib.Core.Path.{_≡_, sym}
 use lib.ListN.{length}
 use lib.Seq.{set-out}
-use borrow.Author.Needs.{needs}
 use Rattle.writes.proofs.put_thermostat.Statement.{statement}
 use Rattle.writes.proofs.put_thermostat.Tie as tie
 

@@ -5,7 +5,6 @@ use mathlib.Core.Path.{sym, _∙_}
 use borrow.Author.Tests.{le-leb, lt-leb, not-true, not-false}
 use Rattle.model.specs.Refusals.{judged}
 use Rattle.writes.specs.Answers.{thermostatTaken}
-use borrow.Author.Needs.{needs}
 use Rattle.writes.proofs.set_thermostat.Statement.{statement}
 use Rattle.writes.proofs.set_thermostat.Tie as tie
 

@@ -5,7 +5,6 @@ use mir.Syntax.{w16}
 use mir.Val.{SFits}
 use mir.Facts.{toZ-ofZ}
 use Rattle.model.specs.Registers.{wordsThermostat}
-use borrow.Author.Needs.{needs}
 use Rattle.writes.proofs.thermostat_from.Statement.{statement}
 use Rattle.writes.proofs.thermostat_from.Tie as tie
 

@@ -3,7 +3,6 @@ use borrow.Author.Needs.{needs}
 use mathlib.Core.Path.{_∙_}
 use denote.Ref.{now}
 use Rattle.writes.proofs.Words.{value-in, value-out}
-use borrow.Author.Needs.{needs}
 use Rattle.writes.proofs.value_at.Statement.{statement}
 use Rattle.writes.proofs.value_at.Tie as tie
 

@@ -6,7 +6,6 @@ use Rattle.model.specs.Refusals.{judged}
 use Rattle.model.specs.Counters.{deduct}
 use Rattle.model.specs.Registers.{writeDeductions}
 use Rattle.writes.proofs.Words.{words-length}
-use borrow.Author.Needs.{needs}
 use Rattle.writes.proofs.write_deductions.Statement.{statement}
 use Rattle.writes.proofs.write_deductions.Tie as tie
 

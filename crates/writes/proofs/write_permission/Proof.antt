@@ -3,7 +3,6 @@ use borrow.Author.Needs.{needs}
 use borrow.Author.Tests.{not-true, not-false, eq-eqb, ne-eqb}
 use Rattle.model.specs.Refusals.{judged}
 use Rattle.model.specs.Registers.{writePermission}
-use borrow.Author.Needs.{needs}
 use Rattle.writes.proofs.write_permission.Statement.{statement}
 use Rattle.writes.proofs.write_permission.Tie as tie
 

@@ -5,7 +5,6 @@ use Rattle.model.specs.Refusals.{judged}
 use Rattle.model.specs.Registers.{writeThermostat}
 use Rattle.writes.specs.Answers.{thermostatTaken}
 use Rattle.writes.proofs.Words.{words-length}
-use borrow.Author.Needs.{needs}
 use Rattle.writes.proofs.write_thermostat.Statement.{statement}
 use Rattle.writes.proofs.write_thermostat.Tie as tie
 

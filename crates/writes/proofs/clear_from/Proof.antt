@@ -1,0 +1,100 @@
+-- `writes::clear_from` meets its contract. The loop's invariant: the values left, on the copy so far, come to the whole; the number is ahead
+-- of `first` by the values taken. Assumes nothing.
+use native.Mathlib.Omega.{arith}
+use Prim.Native.Nat.{_≤_, _+_, _*_, _-_}
+use mathlib.Core.Path.{_≡_, refl, _∙_}
+use denote.Ref.{now}
+use lib.ListN.{length, drop}
+use borrow.Author.Tests.{eq-eqb, ne-eqb}
+use Rattle.lists.specs.Entries.{numbered}
+use Rattle.lists.proofs.Walks.{onCopy}
+use Rattle.model.specs.Registers.{isZero, clearOne}
+use Rattle.model.specs.Modbus.{words}
+use Rattle.writes.proofs.InTurn.{value-goes, value-stops, values-end}
+use Rattle.writes.proofs.Clears.{cleared, clearing, clears-taken}
+use Rattle.writes.proofs.clear_from.Statement.{statement}
+use Rattle.writes.proofs.clear_from.Tie as tie
+
+abbrev Inv-loop : tie.InvT-loop
+Inv-loop first d cs copy₀ n₀ i₀ copy n i = ((i ≤ length d) × (2 * n ≡ 2 * first + i)) × (clearing cs copy (numbered n (words (drop i d))) ≡ clearing cs cs (numbered first (words d)))
+
+abbrev μ-loop : tie.MeasureT-loop
+μ-loop first d cs copy₀ n₀ i₀ copy n i = length d - i
+
+loop-holds : tie.Need-loop-holds Inv-loop μ-loop
+loop-holds c = ((omega arith, omega arith), refl)
+
+sub-loop : tie.Need-sub-loop Inv-loop μ-loop
+sub-loop c = omega arith
+
+shared-slice-read-be16 : tie.Need-shared-slice-read-be16 Inv-loop μ-loop
+shared-slice-read-be16 c = omega arith
+
+add-be16 : tie.Need-add-be16 Inv-loop μ-loop
+add-be16 c = omega arith
+
+shared-slice-read-be16-2 : tie.Need-shared-slice-read-be16-2 Inv-loop μ-loop
+shared-slice-read-be16-2 c = omega arith
+
+be16-requires : tie.Need-be16-requires Inv-loop μ-loop
+be16-requires c κs = tt
+
+returns : tie.Need-returns Inv-loop μ-loop
+unfolding isZero
+returns c =
+    let v = c .before in
+    let at = v .before .before .before .before in
+    let from = at .before .before .args in
+    let bad = rw (v .be16 .ensures) at (ne-eqb _ 0 (c .if1 .taken)) in
+    value-stops (onCopy isZero) clearOne (cleared 0) (cleared 11 (from .cs)) (now (from .d)) (at .loop .i) (at .loop .n) (at .loop .copy) (omega arith) bad
+    ∙ at .loop .inv .1
+    ∙ clears-taken (from .first) (words (now (from .d))) (from .cs)
+
+clear-at-requires : tie.Need-clear-at-requires Inv-loop μ-loop
+clear-at-requires c κs = tt
+
+add-n : tie.Need-add-n Inv-loop μ-loop
+add-n c = omega arith
+
+add-i : tie.Need-add-i Inv-loop μ-loop
+add-i c = omega arith
+
+loop-less : tie.Need-loop-less Inv-loop μ-loop
+loop-less c = omega arith
+
+loop-again : tie.Need-loop-again Inv-loop μ-loop
+unfolding isZero clearOne
+loop-again c =
+    let v = c .before .before in
+    let at = v .before .before .before .before in
+    let from = at .before .before .args in
+    let good = rw (v .be16 .ensures) at (eq-eqb _ 0 (c .before .if1 .left)) in
+    ((omega arith, omega arith), rw (c .clear-at .ensures) (value-goes (onCopy isZero) clearOne (cleared 0) (cleared 11 (from .cs)) (now (from .d)) (at .loop .i) (at .loop .n) (at .loop .copy) (omega arith) good ∙ at .loop .inv .1))
+
+returns-2 : tie.Need-returns-2 Inv-loop μ-loop
+returns-2 c =
+    let at = c .before in
+    let from = at .before .before .args in
+    values-end (onCopy isZero) clearOne (cleared 0) (cleared 11 (from .cs)) (now (from .d)) (at .loop .i) (at .loop .n) (at .loop .copy) (omega arith)
+    ∙ at .loop .inv .1
+    ∙ clears-taken (from .first) (words (now (from .d))) (from .cs)
+
+pub clear-from-spec : {M : Type 1} → statement M
+clear-from-spec =
+    tie.close
+    (tie.spec
+    Inv-loop
+    μ-loop
+    loop-holds
+    sub-loop
+    shared-slice-read-be16
+    add-be16
+    shared-slice-read-be16-2
+    be16-requires
+    returns
+    clear-at-requires
+    add-n
+    add-i
+    loop-less
+    loop-again
+    returns-2)
