@@ -1,13 +1,16 @@
-// The calls.
+// The five calls: fresh, sample, temperature, spinel, modbus; and what demands 1 and 3 say of them.
 ghost use mathlib.Core.Path.{_≡_};
 ghost use Prim.Native.Nat.{_≤_};
 ghost use lib.ListN.{length, take};
-ghost use Rattle.lists.specs.Data.{over};
+ghost use Rattle.lists.specs.Data.{held, over};
 ghost use Rattle.model.specs.State.{freshModule};
 ghost use Rattle.model.specs.Temperature.{readingOf, taken};
-ghost use Rattle.model.specs.Refusals.{silent};
-ghost use Rattle.model.specs.Calls.{sampleCall, temperatureCall, spinelCall, answerOf, Answered};
+ghost use Rattle.model.specs.Refusals.{silent, bufferShort};
+ghost use Rattle.model.specs.Calls.{sampleCall, temperatureCall, spinelCall, modbusCall, answerOf, Answered};
+ghost use Rattle.model.specs.Demand1.{RefusalsHold};
+ghost use Rattle.model.specs.Cycles.{CyclesConserved};
 ghost use Rattle.iomodule.specs.Parts.{noticeData, noticeDue, steppedOf};
+use answers::Handled;
 use lists::Data;
 use model::Answer;
 use model::Line;
@@ -95,7 +98,14 @@ fn step(m: Module, bits: u16) -> Stepped
     }
 }
 
-// Refusal 1: the lent buffer is too short.
+// Condition 1: the lent buffer has fewer than 256 bytes.
+fn is_short(room: usize) -> bool
+    ensures { λ r. ⌜ r ≡ bufferShort room ⌝ }
+{
+    room < 256
+}
+
+// Refusal 1.
 fn no_room(m: Module) -> Answer
     ensures { λ r. ⌜ r ≡ answerOf (silent 1 m) ⌝ }
 {
@@ -110,7 +120,7 @@ fn no_room(m: Module) -> Answer
 pub fn sample(m: Module, bits: u16, reply: &mut [u8]) -> Answer
     ensures { λ r. ⌜ Answered (sampleCall (length (now (reply .entry))) bits m) r (now (reply .entry)) (now (reply .exit)) ⌝ }
 {
-    if reply.len() < 256 {
+    if is_short(reply.len()) {
         return no_room(m);
     }
     let s = step(m, bits);
@@ -167,15 +177,12 @@ pub fn temperature(m: Module, good: bool, tenths: i16) -> Answer
     }
 }
 
-// A Spinel frame of any bytes: refusal 1, else what the frame comes to, its reply written to the lent buffer.
-pub fn spinel(m: Module, frame: &[u8], reply: &mut [u8]) -> Answer
-    ensures { λ r. ⌜ Answered (spinelCall (length (now (reply .entry))) (now (frame .entry)) m) r (now (reply .entry)) (now (reply .exit)) ⌝ }
+// A handled frame's answer; its reply is written to the lent buffer.
+fn reply_out(h: Handled, reply: &mut [u8]) -> Answer
+    requires { ⌜ (h .reply .len ≤ 256) × (h .reply .len ≤ length (now reply)) ⌝ }
+    ensures { λ r. ⌜ r ≡ record { refusal = h .refusal; len = h .reply .len; after = h .after } ⌝ }
+    ensures { λ _. ⌜ now (reply .exit) ≡ over (held (h .reply)) (now (reply .entry)) ⌝ }
 {
-    let room = reply.len();
-    if room < 256 {
-        return no_room(m);
-    }
-    let h = spinel::handle(m, frame);
     let refusal = h.refusal;
     let after = h.after;
     let d = h.reply;
@@ -188,3 +195,34 @@ pub fn spinel(m: Module, frame: &[u8], reply: &mut [u8]) -> Answer
         after,
     }
 }
+
+// A Spinel frame of any bytes: refusal 1, else what the frame comes to.
+pub fn spinel(m: Module, frame: &[u8], reply: &mut [u8]) -> Answer
+    ensures { λ r. ⌜ Answered (spinelCall (length (now (reply .entry))) (now (frame .entry)) m) r (now (reply .entry)) (now (reply .exit)) ⌝ }
+{
+    if is_short(reply.len()) {
+        return no_room(m);
+    }
+    reply_out(spinel::handle(m, frame), reply)
+}
+
+// A Modbus frame of any bytes: refusal 1, else what the frame comes to.
+pub fn modbus(m: Module, frame: &[u8], reply: &mut [u8]) -> Answer
+    ensures { λ r. ⌜ Answered (modbusCall (length (now (reply .entry))) (now (frame .entry)) m) r (now (reply .entry)) (now (reply .exit)) ⌝ }
+{
+    if is_short(reply.len()) {
+        return no_room(m);
+    }
+    reply_out(modbus::handle(m, frame), reply)
+}
+
+// Demand 1: of every call in every state, by which number it is refused and what a refusal leaves, in the definitions that the
+// calls above promise. It does nothing.
+pub fn refusals_hold()
+    ensures { λ r. ⌜ RefusalsHold ⌝ }
+{}
+
+// Demand 3: over every list of these calls from the fresh state, edges are collected plus counter. It does nothing.
+pub fn cycles_conserved()
+    ensures { λ r. ⌜ CyclesConserved ⌝ }
+{}

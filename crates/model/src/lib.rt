@@ -1,8 +1,6 @@
 // The module's state, and the fresh one.
 ghost use mathlib.Core.Path.{_≡_};
 ghost use Rattle.model.specs.State.{freshModule};
-ghost use Rattle.model.specs.Demand1.{RefusalsHold};
-ghost use Rattle.model.specs.Cycles.{CyclesConserved};
 
 // One input: its stable state, and the run of samples that differ from it.
 pub struct Line {
@@ -130,13 +128,3 @@ pub fn fresh() -> Module
         },
     }
 }
-
-// Demand 1: of every call in every state, by which number it is refused and what a refusal leaves. It does nothing.
-pub fn refusals_hold()
-    ensures { λ r. ⌜ RefusalsHold ⌝ }
-{}
-
-// Demand 3: over every list of calls from a fresh module, edges are collected plus counter. It does nothing.
-pub fn cycles_conserved()
-    ensures { λ r. ⌜ CyclesConserved ⌝ }
-{}

@@ -1,41 +1,54 @@
 -- `iomodule::spinel` meets its contract. Assumes nothing.
 use borrow.Author.Needs.{needs}
+use Prim.Native.Nat.{_≤_}
 use native.Mathlib.Omega.{arith}
-use mathlib.Core.Path.{refl}
+use mathlib.Core.Path.{refl, sym, _∙_}
 use denote.Ref.{now}
 use lib.ListN.{length}
-use borrow.Author.Tests.{lt-ltb}
+use borrow.Author.Tests.{ltb-false}
 use Rattle.model.specs.Calls.{spinelCall}
-use Rattle.iomodule.proofs.Frames.{handled-short, handled-answered}
+use Rattle.model.specs.Spinel.{spinelHandled}
 use Rattle.iomodule.proofs.spinel.Statement.{statement}
 use Rattle.iomodule.proofs.spinel.Tie as tie
+use Rattle.iomodule.proofs.Frames.{spinel-room, handled-short, handled-answered}
+
+enough : (c : tie.Else1) → 256 ≤ length (now (c .before .before .before .before .args .reply))
+enough c = ltb-false _ 256 (sym (c .before .is-short .ensures) ∙ c .if1 .left)
+
+is-short-requires : tie.Need-is-short-requires
+is-short-requires c κs = search needs
 
 no-room-requires : tie.Need-no-room-requires
 no-room-requires c κs = search needs
 
 returns : tie.Need-returns
 unfolding spinelCall
-returns c = rw (lt-ltb (length (now (c .before .before .before .before .args .reply))) 256 (omega arith)) (record { answer = c .no-room .ensures; buffer = refl })
+returns c = rw (sym (c .before .before .is-short .ensures) ∙ c .before .if1 .taken) (record { answer = c .no-room .ensures; buffer = refl })
 
 handle-requires : tie.Need-handle-requires
 handle-requires c κs = search needs
 
-copy-out-requires : tie.Need-copy-out-requires
-copy-out-requires c κs =
-    let done = c .before .before .before .before in
-    let a = done .before .before .before .before .args in
-    let short = handled-short (now (a .frame)) (a .m) (done .handle .result) (done .handle .ensures) in
-    omega arith
+reply-out-requires : tie.Need-reply-out-requires
+reply-out-requires c κs =
+    let done = c .before in
+    let e = done .before in
+    let a = e .before .before .before .before .args in
+    let short = handled-short (spinelHandled (now (a .frame)) (a .m)) (done .handle .result) (done .handle .ensures) (spinel-room (now (a .frame)) (a .m)) in
+    omega (arith, short, enough e)
 
 same-length : tie.Need-same-length
 same-length c = search needs
 
 returns-2 : tie.Need-returns-2
+unfolding spinelCall
 returns-2 c =
-    let copied = c .before .before in
-    let done = copied .before .before .before .before .before in
-    let a = done .before .before .before .before .args in
-    handled-answered (now (a .frame)) (a .m) (length (now (a .reply))) (done .handle .result) (now (a .reply)) _ (omega arith) (done .handle .ensures) (copied .copy-out .ensures)
+    let out = c .before .before in
+    let done = out .before .before in
+    let e = done .before in
+    let a = e .before .before .before .before .args in
+    rw (sym (e .before .is-short .ensures) ∙ e .if1 .left) (handled-answered (spinelHandled (now (a .frame)) (a .m)) (done .handle .result) (done .handle .ensures) _ _ _ (out .reply-out .ensures .0) (out .reply-out .ensures .1))
 
 pub spinel-spec : {M : Type 1} → statement M
-spinel-spec = tie.close (tie.spec no-room-requires returns handle-requires copy-out-requires same-length returns-2)
+spinel-spec =
+    tie.close
+    (tie.spec is-short-requires no-room-requires returns handle-requires reply-out-requires same-length returns-2)

@@ -1,0 +1,54 @@
+-- `iomodule::modbus` meets its contract. Assumes nothing.
+use borrow.Author.Needs.{needs}
+use Prim.Native.Nat.{_≤_}
+use native.Mathlib.Omega.{arith}
+use mathlib.Core.Path.{refl, sym, _∙_}
+use denote.Ref.{now}
+use lib.ListN.{length}
+use borrow.Author.Tests.{ltb-false}
+use Rattle.model.specs.Calls.{modbusCall}
+use Rattle.model.specs.Modbus.{modbusHandled}
+use Rattle.iomodule.proofs.modbus.Statement.{statement}
+use Rattle.iomodule.proofs.modbus.Tie as tie
+use Rattle.iomodule.proofs.Frames.{modbus-room, handled-short, handled-answered}
+
+enough : (c : tie.Else1) → 256 ≤ length (now (c .before .before .before .before .args .reply))
+enough c = ltb-false _ 256 (sym (c .before .is-short .ensures) ∙ c .if1 .left)
+
+is-short-requires : tie.Need-is-short-requires
+is-short-requires c κs = search needs
+
+no-room-requires : tie.Need-no-room-requires
+no-room-requires c κs = search needs
+
+returns : tie.Need-returns
+unfolding modbusCall
+returns c = rw (sym (c .before .before .is-short .ensures) ∙ c .before .if1 .taken) (record { answer = c .no-room .ensures; buffer = refl })
+
+handle-requires : tie.Need-handle-requires
+handle-requires c κs = search needs
+
+reply-out-requires : tie.Need-reply-out-requires
+reply-out-requires c κs =
+    let done = c .before in
+    let e = done .before in
+    let a = e .before .before .before .before .args in
+    let short = handled-short (modbusHandled (now (a .frame)) (a .m)) (done .handle .result) (done .handle .ensures) (modbus-room (now (a .frame)) (a .m)) in
+    omega (arith, short, enough e)
+
+same-length : tie.Need-same-length
+same-length c = search needs
+
+returns-2 : tie.Need-returns-2
+unfolding modbusCall
+returns-2 c =
+    let out = c .before .before in
+    let done = out .before .before in
+    let e = done .before in
+    let a = e .before .before .before .before .args in
+    rw (sym (e .before .is-short .ensures) ∙ e .if1 .left) (handled-answered (modbusHandled (now (a .frame)) (a .m)) (done .handle .result) (done .handle .ensures) _ _ _ (out .reply-out .ensures .0) (out .reply-out .ensures .1))
+
+pub modbus-spec : {M : Type 1} → statement M
+modbus-spec =
+    tie.close
+    (tie.spec is-short-requires no-room-requires returns handle-requires reply-out-requires same-length returns-2)

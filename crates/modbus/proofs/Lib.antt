@@ -1,0 +1,4 @@
+pub mod Bodies
+pub mod Echoes
+pub mod Laws
+pub mod Ranges

@@ -1,0 +1,36 @@
+-- `modbus::handle` meets its contract. Assumes nothing.
+use borrow.Author.Needs.{needs}
+use denote.Ref.{now}
+use mathlib.Core.Path.{sym, ap, _∙_}
+use Rattle.model.specs.Modbus.{modbusActed, modbusHandled}
+use Rattle.frames.proofs.Passing.{modbus-passes}
+use Rattle.answers.specs.Parts.{handledOf}
+use Rattle.answers.proofs.Laws.{refused-law}
+use Rattle.modbus.proofs.handle.Statement.{statement}
+use Rattle.modbus.proofs.handle.Tie as tie
+
+modbus-refusal-requires : tie.Need-modbus-refusal-requires
+modbus-refusal-requires c κs = search needs
+
+unheard-requires : tie.Need-unheard-requires
+unheard-requires c κs = search needs
+
+returns : tie.Need-returns
+unfolding modbusHandled
+returns c =
+    let k = c .before .before in
+    let a = k .before .before .before .args in
+    c .unheard .ensures ∙ ap handledOf (refused-law (k .modbus-refusal .result) (a .m) (modbusActed (now (a .frame)) (a .m)) (c .before .if1 .taken)) ∙ rw (k .modbus-refusal .ensures)
+
+act-requires : tie.Need-act-requires
+act-requires c κs = modbus-passes _ _ (sym (c .before .modbus-refusal .ensures) ∙ c .if1 .left) .least
+
+returns-2 : tie.Need-returns-2
+unfolding modbusHandled
+returns-2 c =
+    let e = c .before in
+    rw (c .act .ensures, sym (e .before .modbus-refusal .ensures) ∙ e .if1 .left)
+
+pub handle-spec : {M : Type 1} → statement M
+handle-spec =
+    tie.close (tie.spec modbus-refusal-requires unheard-requires returns act-requires returns-2)

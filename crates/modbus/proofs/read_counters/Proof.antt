@@ -1,0 +1,19 @@
+-- `modbus::read_counters` meets its contract. Assumes nothing.
+use borrow.Author.Needs.{needs}
+use Rattle.answers.proofs.Laws.{told-law}
+use Rattle.model.specs.Registers.{readWords}
+use Rattle.modbus.proofs.read_counters.Statement.{statement}
+use Rattle.modbus.proofs.read_counters.Tie as tie
+
+read-words-requires : tie.Need-read-words-requires
+read-words-requires c κs = search needs
+
+told-requires : tie.Need-told-requires
+told-requires c κs = search needs
+
+returns : tie.Need-returns
+unfolding readWords
+returns c = rw (c .told .ensures, c .before .read-words .ensures) (told-law _ tt _)
+
+pub read-counters-spec : {M : Type 1} → statement M
+read-counters-spec = tie.close (tie.spec read-words-requires told-requires returns)

@@ -1,0 +1,65 @@
+-- `modbus::read_reading` meets its contract. Assumes nothing.
+use borrow.Author.Needs.{needs}
+use mathlib.Core.Path.{refl, sym, _∙_}
+use denote.Ref.{now}
+use mathlib.Core.Path.{refl, sym, _∙_}
+use Rattle.model.specs.Registers.{readWords}
+use Rattle.model.specs.Modbus.{startOf, secondOf, quantityWrong}
+use Rattle.answers.proofs.Laws.{told-law}
+use Rattle.model.specs.Temperature.{readingWords}
+use Rattle.model.specs.Modbus.{startOf, secondOf, quantityWrong}
+use Rattle.modbus.proofs.read_reading.Statement.{statement}
+use Rattle.modbus.proofs.read_reading.Tie as tie
+use Rattle.modbus.proofs.Laws.{refused-8, passed-8}
+use Rattle.modbus.proofs.Laws.{refused-8, passed-8}
+
+quantity-wrong-requires : tie.Need-quantity-wrong-requires
+quantity-wrong-requires c κs = search needs
+
+wrong-body-requires : tie.Need-wrong-body-requires
+wrong-body-requires c κs = search needs
+
+returns : tie.Need-returns
+unfolding readWords
+returns c =
+    let a = c .before .before .before .before .args in
+    let b = now (a .b) in
+    c .wrong-body .ensures ∙ refused-8 (a .m) (readWords 0 (readingWords (a .m .reading)) (startOf b) (secondOf b) (a .m)) (quantityWrong 125 b) (sym (c .before .before .quantity-wrong .ensures) ∙ c .before .if1 .taken) (refl)
+
+word-from-requires : tie.Need-word-from-requires
+word-from-requires c κs = search needs
+
+word-from-requires-2 : tie.Need-word-from-requires-2
+word-from-requires-2 c κs = search needs
+
+read-input-requires : tie.Need-read-input-requires
+read-input-requires c κs = search needs
+
+told-requires : tie.Need-told-requires
+told-requires c κs = search needs
+
+returns-2 : tie.Need-returns-2
+unfolding readWords
+returns-2 c =
+    let r = c .before in
+    let second = r .before in
+    let first = second .before in
+    let e = first .before in
+    let a = e .before .before .before .args in
+    let b = now (a .b) in
+    rw (c .told .ensures, r .read-input .ensures, second .word-from2 .ensures, first .word-from .ensures)
+    (told-law (a .m) tt (readWords 0 (readingWords (a .m .reading)) (startOf b) (secondOf b) tt)
+    ∙ passed-8 (a .m) (readWords 0 (readingWords (a .m .reading)) (startOf b) (secondOf b) (a .m)) (quantityWrong 125 b) (sym (e .before .quantity-wrong .ensures) ∙ e .if1 .left))
+
+pub read-reading-spec : {M : Type 1} → statement M
+read-reading-spec =
+    tie.close
+    (tie.spec
+    quantity-wrong-requires
+    wrong-body-requires
+    returns
+    word-from-requires
+    word-from-requires-2
+    read-input-requires
+    told-requires
+    returns-2)

@@ -1,0 +1,72 @@
+-- `modbus::write_coil` meets its contract. Assumes nothing.
+use borrow.Author.Needs.{needs}
+use denote.Ref.{now}
+use mathlib.Core.Path.{refl, ap}
+use mathlib.Core.Bool.{not, _||_}
+use mathlib.Core.List.{[], _∷_}
+use Prim.Native.Nat.{_/_}
+use lib.Dec.{eqb}
+use lib.ListN.{length, take}
+use lib.Seq.{take-all}
+use native.Mathlib.Nat.{le-of-eq}
+use borrow.Author.Tests.{eq-eqb, ne-eqb}
+use Rattle.answers.proofs.Laws.{part-law}
+use Rattle.model.specs.Refusals.{judged, refuse11, onPart}
+use Rattle.model.specs.Outputs.{actOn}
+use Rattle.model.specs.State.{withOutputs}
+use Rattle.model.specs.Registers.{writeCoils}
+use Rattle.model.specs.Modbus.{startOf, secondOf, coilWritten}
+use Rattle.modbus.proofs.write_coil.Statement.{statement}
+use Rattle.modbus.proofs.write_coil.Tie as tie
+use Rattle.modbus.proofs.Echoes.{written-law}
+
+wrong-body-requires : tie.Need-wrong-body-requires
+wrong-body-requires c κs = search needs
+
+returns : tie.Need-returns
+unfolding coilWritten writeCoils actOn judged
+returns c = rw (c .wrong-body .ensures, ne-eqb (length (now (c .before .before .before .args .b))) 4 (c .before .if1 .taken))
+
+word-from-requires : tie.Need-word-from-requires
+word-from-requires c κs = search needs
+
+word-from-requires-2 : tie.Need-word-from-requires-2
+word-from-requires-2 c κs = search needs
+
+write-coil-requires : tie.Need-write-coil-requires
+write-coil-requires c κs = search needs
+
+put-outputs-requires : tie.Need-put-outputs-requires
+put-outputs-requires c κs = search needs
+
+echo-requires : tie.Need-echo-requires
+echo-requires c κs = search needs
+
+returns-2 : tie.Need-returns-2
+unfolding coilWritten writeCoils actOn
+returns-2 c =
+    let put = c .before in
+    let s = put .before .before in
+    let second = s .before in
+    let first = second .before in
+    let e = first .before .before .before in
+    let a = e .before .before .args in
+    let b = now (a .b) in
+    let q = refuse11 (not (eqb (secondOf b) 0xFF00 || eqb (secondOf b) 0x0000)) (writeCoils (a .m .reading) (a .m .thermostats) (startOf b) (secondOf b / 0xFF00 ∷ []) (a .m .outputs)) in
+    rw (c .echo .ensures, take-all 4 b (le-of-eq (e .if1 .left)))
+    (written-law (a .m) (onPart (withOutputs (a .m)) q) b (not (eqb (length b) 4)) (put .put-outputs .result)
+    (rw (put .put-outputs .ensures, s .write-coil .ensures, second .word-from2 .ensures, first .word-from .ensures) (part-law (withOutputs (a .m)) (a .m .outputs) q refl))
+    (ap not (eq-eqb (length b) 4 (e .if1 .left))))
+
+pub write-coil-spec : {M : Type 1} → statement M
+write-coil-spec =
+    tie.close
+    (tie.spec
+    wrong-body-requires
+    returns
+    word-from-requires
+    word-from-requires-2
+    write-coil-requires
+    put-outputs-requires
+    echo-requires
+    returns-2)

@@ -1,0 +1,105 @@
+-- `modbus::write_coils` meets its contract. Assumes nothing.
+use borrow.Author.Needs.{needs}
+use denote.Ref.{now}
+use mathlib.Core.Path.{refl, sym, _∙_}
+use Prim.Native.Nat.{_+_, _/_, _≤_}
+use lib.ListN.{length, take, drop}
+use native.Mathlib.Omega.{arith}
+use Rattle.answers.proofs.Laws.{part-law}
+use Rattle.model.specs.Refusals.{onPart}
+use Rattle.model.specs.Outputs.{actOn}
+use Rattle.model.specs.State.{withOutputs}
+use Rattle.model.specs.Registers.{writeCoils}
+use Rattle.model.specs.Modbus.{startOf, secondOf, countWrong, bitsFrom, answering, coilsWritten}
+use Rattle.modbus.proofs.write_coils.Statement.{statement}
+use Rattle.modbus.proofs.write_coils.Tie as tie
+use Rattle.modbus.proofs.Laws.{refused-8}
+use Rattle.modbus.proofs.Echoes.{written-law}
+use Rattle.modbus.proofs.Bodies.{rest-whole, counted}
+
+-- a body that passes has its head
+long : (c : tie.Else1) → 5 ≤ length (now (c .before .before .before .before .args .b))
+long c = omega (arith, counted 1968 _ _ (sym (c .before .count-wrong .ensures) ∙ c .if1 .left))
+
+word-from-requires : tie.Need-word-from-requires
+word-from-requires c κs = search needs
+
+cast-size : tie.Need-cast-size
+cast-size c = search needs
+
+add-size : tie.Need-add-size
+add-size c = search needs
+
+count-wrong-requires : tie.Need-count-wrong-requires
+count-wrong-requires c κs = search needs
+
+wrong-body-requires : tie.Need-wrong-body-requires
+wrong-body-requires c κs = search needs
+
+returns : tie.Need-returns
+unfolding coilsWritten writeCoils actOn
+returns c =
+    let k = c .before .before in
+    let n = k .before in
+    let a = n .before .before .args in
+    let b = now (a .b) in
+    let q = writeCoils (a .m .reading) (a .m .thermostats) (startOf b) (bitsFrom 0 (secondOf b) (drop 5 b)) (a .m .outputs) in
+    c .wrong-body .ensures
+    ∙ refused-8 (a .m) (answering (take 4 b) (onPart (withOutputs (a .m)) q)) (countWrong 1968 ((secondOf b + 7) / 8) b) (sym (rw (n .word-from .ensures) at (k .count-wrong .ensures)) ∙ c .before .if1 .taken) refl
+
+word-from-requires-2 : tie.Need-word-from-requires-2
+word-from-requires-2 c κs = search needs
+
+sub-write-coils : tie.Need-sub-write-coils
+sub-write-coils c = long (c .before .before .before)
+
+part-write-coils-start : tie.Need-part-write-coils-start
+part-write-coils-start c = omega (arith, long (c .before .before .before))
+
+part-write-coils-end : tie.Need-part-write-coils-end
+part-write-coils-end c = search needs
+
+write-coils-requires : tie.Need-write-coils-requires
+write-coils-requires c κs = search needs
+
+put-outputs-requires : tie.Need-put-outputs-requires
+put-outputs-requires c κs = search needs
+
+echo-requires : tie.Need-echo-requires
+echo-requires c κs = omega (arith, long (c .before .before .before .before .before .before .before))
+
+returns-2 : tie.Need-returns-2
+unfolding coilsWritten writeCoils actOn
+returns-2 c =
+    let put = c .before in
+    let s = put .before .before in
+    let first = s .before .before in
+    let e = first .before .before .before in
+    let k = e .before in
+    let n = k .before in
+    let a = n .before .before .args in
+    let b = now (a .b) in
+    let q = writeCoils (a .m .reading) (a .m .thermostats) (startOf b) (bitsFrom 0 (secondOf b) (drop 5 b)) (a .m .outputs) in
+    rw (c .echo .ensures)
+    (written-law (a .m) (onPart (withOutputs (a .m)) q) (take 4 b) (countWrong 1968 ((secondOf b + 7) / 8) b) (put .put-outputs .result)
+    (rw (put .put-outputs .ensures, s .write-coils .ensures, first .word-from2 .ensures, n .word-from .ensures, rest-whole 5 b) (part-law (withOutputs (a .m)) (a .m .outputs) q refl))
+    (sym (rw (n .word-from .ensures) at (k .count-wrong .ensures)) ∙ e .if1 .left))
+
+pub write-coils-spec : {M : Type 1} → statement M
+write-coils-spec =
+    tie.close
+    (tie.spec
+    word-from-requires
+    cast-size
+    add-size
+    count-wrong-requires
+    wrong-body-requires
+    returns
+    word-from-requires-2
+    sub-write-coils
+    part-write-coils-start
+    part-write-coils-end
+    write-coils-requires
+    put-outputs-requires
+    echo-requires
+    returns-2)

@@ -1,0 +1,30 @@
+-- `modbus::write_counters` meets its contract. Assumes nothing.
+use borrow.Author.Needs.{needs}
+use denote.Ref.{now}
+use mathlib.Core.Path.{refl}
+use Rattle.answers.proofs.Laws.{part-law}
+use Rattle.model.specs.Modbus.{words}
+use Rattle.model.specs.Registers.{writeCounters}
+use Rattle.model.specs.State.{withInputs, withCounters}
+use Rattle.modbus.proofs.write_counters.Statement.{statement}
+use Rattle.modbus.proofs.write_counters.Tie as tie
+
+write-counters-requires : tie.Need-write-counters-requires
+write-counters-requires c κs = search needs
+
+empty-requires : tie.Need-empty-requires
+empty-requires c κs = search needs
+
+put-counters-requires : tie.Need-put-counters-requires
+put-counters-requires c κs = search needs
+
+returns : tie.Need-returns
+unfolding writeCounters
+returns c =
+    let kept = c .before .before in
+    let a = kept .before .before .before .before .before .args in
+    rw (c .put-counters .ensures, c .before .empty .ensures, kept .before .write-counters .ensures) (part-law (λ cs. withInputs (a .m) (withCounters (a .m .inputs) cs)) (a .m .inputs .counters) (writeCounters (a .a) (words (now (a .d))) (a .m .inputs .counters)) refl)
+
+pub write-counters-spec : {M : Type 1} → statement M
+write-counters-spec =
+    tie.close (tie.spec write-counters-requires empty-requires put-counters-requires returns)

@@ -1,0 +1,31 @@
+-- `modbus::write_deductions` meets its contract. Assumes nothing.
+use borrow.Author.Needs.{needs}
+use denote.Ref.{now}
+use mathlib.Core.Path.{refl}
+use Rattle.model.specs.Counters.{deduct}
+use Rattle.answers.proofs.Laws.{part-law}
+use Rattle.model.specs.Registers.{writeDeductions}
+use Rattle.model.specs.Modbus.{words}
+use Rattle.model.specs.State.{withInputs, withCounters}
+use Rattle.modbus.proofs.write_deductions.Statement.{statement}
+use Rattle.modbus.proofs.write_deductions.Tie as tie
+
+write-deductions-requires : tie.Need-write-deductions-requires
+write-deductions-requires c κs = search needs
+
+empty-requires : tie.Need-empty-requires
+empty-requires c κs = search needs
+
+put-counters-requires : tie.Need-put-counters-requires
+put-counters-requires c κs = search needs
+
+returns : tie.Need-returns
+unfolding writeDeductions deduct
+returns c =
+    let kept = c .before .before in
+    let a = kept .before .before .before .before .before .args in
+    rw (c .put-counters .ensures, c .before .empty .ensures, kept .before .write-deductions .ensures) (part-law (λ cs. withInputs (a .m) (withCounters (a .m .inputs) cs)) (a .m .inputs .counters) (writeDeductions (a .a) (words (now (a .d))) (a .m .inputs .counters)) refl)
+
+pub write-deductions-spec : {M : Type 1} → statement M
+write-deductions-spec =
+    tie.close (tie.spec write-deductions-requires empty-requires put-counters-requires returns)

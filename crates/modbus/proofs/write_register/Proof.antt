@@ -1,0 +1,76 @@
+-- `modbus::write_register` meets its contract. Assumes nothing.
+use borrow.Author.Needs.{needs}
+use denote.Ref.{now}
+use mathlib.Core.Path.{ap, _∙_}
+use mathlib.Core.Bool.{true, not}
+use mathlib.Core.List.{[], _∷_}
+use lib.Dec.{eqb}
+use lib.ListN.{length, take}
+use lib.Seq.{take-all}
+use native.Mathlib.Nat.{le-of-eq}
+use borrow.Author.Tests.{eq-eqb, ne-eqb}
+use Rattle.model.specs.Modbus.{startOf, secondOf, answering, registersWritten, registerWritten}
+use Rattle.modbus.proofs.write_register.Statement.{statement}
+use Rattle.modbus.proofs.write_register.Tie as tie
+use Rattle.modbus.proofs.Laws.{refused-8}
+use Rattle.modbus.proofs.Echoes.{written-law}
+use Rattle.modbus.proofs.Bodies.{rest-whole, one-word}
+use Rattle.modbus.proofs.Ranges.{writes-listed}
+
+wrong-body-requires : tie.Need-wrong-body-requires
+wrong-body-requires c κs = search needs
+
+returns : tie.Need-returns
+unfolding registerWritten
+returns c =
+    let a = c .before .before .before .args in
+    let b = now (a .b) in
+    c .wrong-body .ensures
+    ∙ refused-8 (a .m) (answering b (registersWritten (a .permitted) true (startOf b) (secondOf b ∷ []) (a .m))) (not (eqb (length b) 4)) (ap not (ne-eqb (length b) 4 (c .before .if1 .taken)))
+    (writes-listed (a .permitted) true (startOf b) (secondOf b ∷ []) (a .m))
+
+word-from-requires : tie.Need-word-from-requires
+word-from-requires c κs = search needs
+
+sub-write-group : tie.Need-sub-write-group
+sub-write-group c = search needs
+
+part-write-group-start : tie.Need-part-write-group-start
+part-write-group-start c = search needs
+
+part-write-group-end : tie.Need-part-write-group-end
+part-write-group-end c = search needs
+
+write-group-requires : tie.Need-write-group-requires
+write-group-requires c κs = search needs
+
+echo-requires : tie.Need-echo-requires
+echo-requires c κs = search needs
+
+returns-2 : tie.Need-returns-2
+unfolding registerWritten
+returns-2 c =
+    let g = c .before in
+    let first = g .before .before in
+    let e = first .before in
+    let a = e .before .before .args in
+    let b = now (a .b) in
+    let q = registersWritten (a .permitted) true (startOf b) (secondOf b ∷ []) (a .m) in
+    rw (c .echo .ensures, take-all 4 b (le-of-eq (e .if1 .left)))
+    (written-law (a .m) q b (not (eqb (length b) 4)) (g .write-group .result)
+    (rw (g .write-group .ensures, first .word-from .ensures, rest-whole 2 b, one-word b (e .if1 .left)))
+    (ap not (eq-eqb (length b) 4 (e .if1 .left))))
+
+pub write-register-spec : {M : Type 1} → statement M
+write-register-spec =
+    tie.close
+    (tie.spec
+    wrong-body-requires
+    returns
+    word-from-requires
+    sub-write-group
+    part-write-group-start
+    part-write-group-end
+    write-group-requires
+    echo-requires
+    returns-2)

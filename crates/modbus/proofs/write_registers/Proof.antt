@@ -1,0 +1,98 @@
+-- `modbus::write_registers` meets its contract. Assumes nothing.
+use borrow.Author.Needs.{needs}
+use denote.Ref.{now}
+use mathlib.Core.Bool.{false}
+use mathlib.Core.Path.{sym, _∙_}
+use Prim.Native.Nat.{_*_, _≤_}
+use lib.ListN.{length, take, drop}
+use native.Mathlib.Omega.{arith}
+use Rattle.model.specs.Modbus.{startOf, secondOf, countWrong, words, answering, registersWritten, severalWritten}
+use Rattle.modbus.proofs.write_registers.Statement.{statement}
+use Rattle.modbus.proofs.write_registers.Tie as tie
+use Rattle.modbus.proofs.Laws.{refused-8}
+use Rattle.modbus.proofs.Echoes.{written-law}
+use Rattle.modbus.proofs.Bodies.{rest-whole, counted}
+use Rattle.modbus.proofs.Ranges.{writes-listed}
+
+-- a body that passes has its head
+long : (c : tie.Else1) → 5 ≤ length (now (c .before .before .before .before .args .b))
+long c = omega (arith, counted 123 _ _ (sym (c .before .count-wrong .ensures) ∙ c .if1 .left))
+
+word-from-requires : tie.Need-word-from-requires
+word-from-requires c κs = search needs
+
+cast-size : tie.Need-cast-size
+cast-size c = search needs
+
+mul-size : tie.Need-mul-size
+mul-size c = search needs
+
+count-wrong-requires : tie.Need-count-wrong-requires
+count-wrong-requires c κs = search needs
+
+wrong-body-requires : tie.Need-wrong-body-requires
+wrong-body-requires c κs = search needs
+
+returns : tie.Need-returns
+unfolding severalWritten
+returns c =
+    let k = c .before .before in
+    let n = k .before in
+    let a = n .before .before .args in
+    let b = now (a .b) in
+    let q = registersWritten (a .permitted) false (startOf b) (words (drop 5 b)) (a .m) in
+    c .wrong-body .ensures
+    ∙ refused-8 (a .m) (answering (take 4 b) q) (countWrong 123 (2 * secondOf b) b) (sym (rw (n .word-from .ensures) at (k .count-wrong .ensures)) ∙ c .before .if1 .taken)
+    (writes-listed (a .permitted) false (startOf b) (words (drop 5 b)) (a .m))
+
+word-from-requires-2 : tie.Need-word-from-requires-2
+word-from-requires-2 c κs = search needs
+
+sub-write-group : tie.Need-sub-write-group
+sub-write-group c = long (c .before)
+
+part-write-group-start : tie.Need-part-write-group-start
+part-write-group-start c = omega (arith, long (c .before))
+
+part-write-group-end : tie.Need-part-write-group-end
+part-write-group-end c = search needs
+
+write-group-requires : tie.Need-write-group-requires
+write-group-requires c κs = search needs
+
+echo-requires : tie.Need-echo-requires
+echo-requires c κs = omega (arith, long (c .before .before .before))
+
+returns-2 : tie.Need-returns-2
+unfolding severalWritten
+returns-2 c =
+    let g = c .before in
+    let first = g .before .before in
+    let e = first .before in
+    let k = e .before in
+    let n = k .before in
+    let a = n .before .before .args in
+    let b = now (a .b) in
+    let q = registersWritten (a .permitted) false (startOf b) (words (drop 5 b)) (a .m) in
+    rw (c .echo .ensures)
+    (written-law (a .m) q (take 4 b) (countWrong 123 (2 * secondOf b) b) (g .write-group .result)
+    (rw (g .write-group .ensures, first .word-from2 .ensures, rest-whole 5 b))
+    (sym (rw (n .word-from .ensures) at (k .count-wrong .ensures)) ∙ e .if1 .left))
+
+pub write-registers-spec : {M : Type 1} → statement M
+write-registers-spec =
+    tie.close
+    (tie.spec
+    word-from-requires
+    cast-size
+    mul-size
+    count-wrong-requires
+    wrong-body-requires
+    returns
+    word-from-requires-2
+    sub-write-group
+    part-write-group-start
+    part-write-group-end
+    write-group-requires
+    echo-requires
+    returns-2)

@@ -1,0 +1,24 @@
+-- The echo of a write and the reply of the Modbus port, as the code gives them.
+use Prim.Native.Nat.{ℕ}
+use mathlib.Core.Bool.{cond}
+use mathlib.Core.List.{List, []}
+use lib.Dec.{eqb}
+use Rattle.lists.specs.Data.{dataOf}
+use Rattle.frames.specs.Replies.{modbusReplied}
+use Rattle.model.specs.Frames.{modbusBroadcast, exceptionReply}
+use Rattle.model.specs.Refusals.{exceptionOf}
+use Rattle.answers.specs.declared.Served.{Served}
+use Rattle.answers.specs.declared.Handled.{Handled}
+
+-- these bytes for an accepted request's data
+abbrev pub echoed : List ℕ → Served → Served
+echoed b s = record { refusal = s .refusal; after = s .after; body = cond (eqb (s .refusal) 0) (dataOf b) (s .body) }
+
+-- "Broadcasts draw no reply"; a refusal is answered by its exception
+abbrev pub answeredTo : ℕ → ℕ → ℕ → Served → Handled
+answeredTo own to function s = record {
+  refusal = s .refusal;
+  after = s .after;
+  reply = cond (eqb to modbusBroadcast) (dataOf [])
+      (cond (eqb (s .refusal) 0) (modbusReplied own function (s .body)) (dataOf (exceptionReply own function (exceptionOf (s .refusal)))));
+}

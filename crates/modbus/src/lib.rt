@@ -1,0 +1,439 @@
+// The Modbus port: each function and register group on the part of the state that it may change, the permission, and the reply. `handle` is pure.
+ghost use mathlib.Core.Path.{_≡_};
+ghost use mathlib.Core.List.{map};
+ghost use Prim.Native.Nat.{_-_, _≤_};
+ghost use lib.ListN.{length, take};
+ghost use Rattle.model.specs.declared.Line.{Line as LineOf};
+ghost use Rattle.model.specs.Samples.{inputStates};
+ghost use Rattle.model.specs.State.{withInputs, withOutputs, withThermostats, withModbus, withModes, withCounters};
+ghost use Rattle.model.specs.Refusals.{judged, refuse8, onPart};
+ghost use Rattle.model.specs.Outputs.{outputStates};
+ghost use Rattle.model.specs.Temperature.{readingWords};
+ghost use Rattle.model.specs.Registers.{readWords, readBits, portWords, outputWord, readThermostat};
+ghost use Rattle.model.specs.Registers.{writePermission, writePort, writeCounters, writeDeductions, writeModes, writePulse, writeThermostat};
+ghost use Rattle.model.specs.Modbus.{startOf, secondOf, quantityWrong, countWrong, words, registersRead, registersWritten};
+ghost use Rattle.model.specs.Modbus.{coilWritten, registerWritten, coilsWritten, severalWritten, modbusAsked, modbusUsed, modbusActed, modbusHandled};
+ghost use Rattle.octets.specs.Answers.{toldOf};
+ghost use Rattle.answers.specs.Parts.{servedOf, handledOf, plain};
+ghost use Rattle.modbus.specs.Parts.{echoed, answeredTo};
+use answers::Handled;
+use answers::Served;
+use model::Line;
+use model::Module;
+use model::Output;
+use octets::Told;
+
+// 8: the body is not what its function names.
+fn wrong_body(m: Module) -> Served
+    ensures { λ r. ⌜ r ≡ plain 8 m ⌝ }
+{
+    answers::bare(8, m)
+}
+
+// 9: in no group open to the function.
+fn no_group(m: Module) -> Served
+    ensures { λ r. ⌜ r ≡ plain 9 m ⌝ }
+{
+    answers::bare(9, m)
+}
+
+// Reading --------------------------------------------------------------------------------
+
+// 8: other than a start and a quantity of 1 to `most`.
+fn quantity_wrong(most: u16, b: &[u8]) -> bool
+    ensures { λ r. ⌜ r ≡ quantityWrong most (now (b .entry)) ⌝ }
+{
+    if b.len() != 4 {
+        return true;
+    }
+    let n = octets::word_from(b, 2);
+    (n < 1) | (most < n)
+}
+
+// Outputs as coils, n from place a on.
+fn coils_told(os: [Output; 16], a: u16, n: u16) -> Told
+    ensures { λ r. ⌜ r ≡ toldOf {P = Unit {0}} (judged tt (readBits (outputStates os) a n tt)) ⌝ }
+{
+    registers::read_bits(readouts::output_bits(os), a, n)
+}
+
+// Stable states of inputs, n from place a on.
+fn inputs_told(lines: [Line; 16], a: u16, n: u16) -> Told
+    ensures { λ r. ⌜ r ≡ toldOf {P = Unit {0}} (judged tt (readBits (map (λ (y : LineOf). y .stable) lines) a n tt)) ⌝ }
+{
+    registers::read_bits(inputs::stable_bits(lines), a, n)
+}
+
+// 01: coils.
+fn read_coils(m: Module, b: &[u8]) -> Served
+    ensures { λ r. ⌜ r ≡ servedOf (judged m (refuse8 (quantityWrong 2000 (now (b .entry))) (readBits (outputStates (m .outputs)) (startOf (now (b .entry))) (secondOf (now (b .entry))) m))) ⌝ }
+{
+    if quantity_wrong(2000, b) {
+        return wrong_body(m);
+    }
+    let os = m.outputs;
+    let a = octets::word_from(b, 0);
+    let n = octets::word_from(b, 2);
+    answers::told(m, coils_told(os, a, n))
+}
+
+// 02: inputs.
+fn read_inputs(m: Module, b: &[u8]) -> Served
+    ensures { λ r. ⌜ r ≡ servedOf (judged m (refuse8 (quantityWrong 2000 (now (b .entry))) (readBits (inputStates (m .inputs)) (startOf (now (b .entry))) (secondOf (now (b .entry))) m))) ⌝ }
+{
+    if quantity_wrong(2000, b) {
+        return wrong_body(m);
+    }
+    let x = m.inputs;
+    let lines = x.lines;
+    let a = octets::word_from(b, 0);
+    let n = octets::word_from(b, 2);
+    answers::told(m, inputs_told(lines, a, n))
+}
+
+// 1 to 2
+fn read_port(m: Module, a: u16, n: u16) -> Served
+    ensures { λ r. ⌜ r ≡ servedOf (judged m (readWords 0 (portWords (m .modbus)) (a - 1) n m)) ⌝ }
+{
+    answers::told(m, registers::read_port(m.modbus, a, n))
+}
+
+// 100 to 115
+fn read_counters(m: Module, a: u16, n: u16) -> Served
+    ensures { λ r. ⌜ r ≡ servedOf (judged m (readWords 0 (m .inputs .counters) (a - 100) n m)) ⌝ }
+{
+    let x = m.inputs;
+    let cs = x.counters;
+    answers::told(m, registers::read_words(100, cs, a, n))
+}
+
+// 300 to 315
+fn read_modes(m: Module, a: u16, n: u16) -> Served
+    ensures { λ r. ⌜ r ≡ servedOf (judged m (readWords 0 (m .inputs .modes) (a - 300) n m)) ⌝ }
+{
+    let x = m.inputs;
+    let ms = x.modes;
+    answers::told(m, registers::read_modes(ms, a, n))
+}
+
+// 500 to 515
+fn read_outputs(m: Module, a: u16, n: u16) -> Served
+    ensures { λ r. ⌜ r ≡ servedOf (judged m (readWords 0 (map outputWord (m .outputs)) (a - 500) n m)) ⌝ }
+{
+    let os = m.outputs;
+    answers::told(m, registers::read_outputs(os, a, n))
+}
+
+// 600 to 663
+fn read_thermostat(m: Module, a: u16, n: u16) -> Served
+    ensures { λ r. ⌜ r ≡ servedOf (judged m (readThermostat (m .thermostats) a n m)) ⌝ }
+{
+    let hs = m.thermostats;
+    answers::told(m, registers::read_thermostat(hs, a, n))
+}
+
+// The register groups open to 03, by the first register.
+fn read_group(m: Module, a: u16, n: u16) -> Served
+    ensures { λ r. ⌜ r ≡ servedOf (judged m (registersRead a n m)) ⌝ }
+{
+    match a {
+        1..=2 => read_port(m, a, n),
+        100..=115 => read_counters(m, a, n),
+        300..=315 => read_modes(m, a, n),
+        500..=515 => read_outputs(m, a, n),
+        600..=663 => read_thermostat(m, a, n),
+        _ => no_group(m),
+    }
+}
+
+// 03: registers.
+fn read_registers(m: Module, b: &[u8]) -> Served
+    ensures { λ r. ⌜ r ≡ servedOf (judged m (refuse8 (quantityWrong 125 (now (b .entry))) (registersRead (startOf (now (b .entry))) (secondOf (now (b .entry))) m))) ⌝ }
+{
+    if quantity_wrong(125, b) {
+        return wrong_body(m);
+    }
+    let a = octets::word_from(b, 0);
+    let n = octets::word_from(b, 2);
+    read_group(m, a, n)
+}
+
+// 04: the input registers.
+fn read_reading(m: Module, b: &[u8]) -> Served
+    ensures { λ r. ⌜ r ≡ servedOf (judged m (refuse8 (quantityWrong 125 (now (b .entry))) (readWords 0 (readingWords (m .reading)) (startOf (now (b .entry))) (secondOf (now (b .entry))) m))) ⌝ }
+{
+    if quantity_wrong(125, b) {
+        return wrong_body(m);
+    }
+    let reading = m.reading;
+    let a = octets::word_from(b, 0);
+    let n = octets::word_from(b, 2);
+    answers::told(m, registers::read_input(reading, a, n))
+}
+
+// Writing --------------------------------------------------------------------------------
+
+// 8: other than a start, a quantity of 1 to `most`, the byte count `size` and so many bytes.
+fn count_wrong(most: u16, size: usize, b: &[u8]) -> bool
+    ensures { λ r. ⌜ r ≡ countWrong most size (now (b .entry)) ⌝ }
+{
+    let n = octets::word_from(b, 2);
+    if (n < 1) | (most < n) {
+        return true;
+    }
+    let count = octets::at(b, 4) as usize;
+    if count != size {
+        return true;
+    }
+    b.len() != 5 + count
+}
+
+// The answer to a write: where it is accepted, the first four bytes of its body come back.
+fn echo(s: Served, b: &[u8]) -> Served
+    requires { ⌜ 4 ≤ length (now b) ⌝ }
+    ensures { λ r. ⌜ r ≡ echoed (take 4 (now (b .entry))) s ⌝ }
+{
+    if s.refusal != 0 {
+        return s;
+    }
+    let two = octets::push(octets::push(octets::empty(), b[0]), b[1]);
+    let four = octets::push(octets::push(two, b[2]), b[3]);
+    let after = s.after;
+    Served {
+        refusal: 0,
+        after,
+        body: four,
+    }
+}
+
+// 0
+fn write_permission(m: Module, single: bool, d: &[u8]) -> Served
+    ensures { λ r. ⌜ r ≡ servedOf (judged m (onPart (withModbus m) (writePermission single (words (now (d .entry))) (m .modbus)))) ⌝ }
+{
+    let s = writes::write_permission(single, d, m.modbus);
+    let modbus = s.port;
+    let mut next = m;
+    next.modbus = modbus;
+    answers::bare(s.refusal, next)
+}
+
+// 1 to 2
+fn write_port(m: Module, permitted: bool, a: u16, d: &[u8]) -> Served
+    ensures { λ r. ⌜ r ≡ servedOf (judged m (writePort permitted a (words (now (d .entry))) m)) ⌝ }
+{
+    let s = writes::write_port(permitted, a, d, m);
+    let after = s.after;
+    answers::bare(s.refusal, after)
+}
+
+// 100 to 115
+fn write_counters(m: Module, a: u16, d: &[u8]) -> Served
+    ensures { λ r. ⌜ r ≡ servedOf (judged m (onPart (λ cs. withInputs m (withCounters (m .inputs) cs)) (writeCounters a (words (now (d .entry))) (m .inputs .counters)))) ⌝ }
+{
+    let x = m.inputs;
+    let cs = x.counters;
+    let s = writes::write_counters(a, d, cs);
+    let after = s.counters;
+    answers::put_counters(m, s.refusal, after, octets::empty())
+}
+
+// 200 to 215
+fn write_deductions(m: Module, a: u16, d: &[u8]) -> Served
+    ensures { λ r. ⌜ r ≡ servedOf (judged m (onPart (λ cs. withInputs m (withCounters (m .inputs) cs)) (writeDeductions a (words (now (d .entry))) (m .inputs .counters)))) ⌝ }
+{
+    let x = m.inputs;
+    let cs = x.counters;
+    let s = writes::write_deductions(a, d, cs);
+    let after = s.counters;
+    answers::put_counters(m, s.refusal, after, octets::empty())
+}
+
+// 300 to 315
+fn write_modes(m: Module, a: u16, d: &[u8]) -> Served
+    ensures { λ r. ⌜ r ≡ servedOf (judged m (onPart (λ ms. withInputs m (withModes (m .inputs) ms)) (writeModes a (words (now (d .entry))) (m .inputs .modes)))) ⌝ }
+{
+    let x = m.inputs;
+    let ms = x.modes;
+    let s = writes::write_modes(a, d, ms);
+    let modes = s.modes;
+    answers::put_modes(m, s.refusal, modes)
+}
+
+// 500 to 515
+fn write_pulse(m: Module, a: u16, d: &[u8]) -> Served
+    ensures { λ r. ⌜ r ≡ servedOf (judged m (onPart (withOutputs m) (writePulse (m .reading) (m .thermostats) a (words (now (d .entry))) (m .outputs)))) ⌝ }
+{
+    let hs = m.thermostats;
+    let os = m.outputs;
+    let reading = m.reading;
+    let s = coils::write_pulse(reading, hs, a, d, os);
+    let outputs = s.outputs;
+    answers::put_outputs(m, s.refusal, outputs)
+}
+
+// 600 to 663
+fn write_thermostat(m: Module, a: u16, d: &[u8]) -> Served
+    ensures { λ r. ⌜ r ≡ servedOf (judged m (onPart (withThermostats m) (writeThermostat a (words (now (d .entry))) (m .thermostats)))) ⌝ }
+{
+    let hs = m.thermostats;
+    let s = writes::write_thermostat(a, d, hs);
+    let thermostats = s.thermostats;
+    answers::put_thermostats(m, s.refusal, thermostats)
+}
+
+// The register groups open to 06 (a single value) and 10H, by the first register; the values are lent, two bytes each.
+fn write_group(m: Module, permitted: bool, single: bool, a: u16, d: &[u8]) -> Served
+    ensures { λ r. ⌜ r ≡ servedOf (judged m (registersWritten permitted single a (words (now (d .entry))) m)) ⌝ }
+{
+    match a {
+        0 => write_permission(m, single, d),
+        1..=2 => write_port(m, permitted, a, d),
+        100..=115 => write_counters(m, a, d),
+        200..=215 => write_deductions(m, a, d),
+        300..=315 => write_modes(m, a, d),
+        500..=515 => write_pulse(m, a, d),
+        600..=663 => write_thermostat(m, a, d),
+        _ => no_group(m),
+    }
+}
+
+// 05: one coil.
+fn write_coil(m: Module, b: &[u8]) -> Served
+    ensures { λ r. ⌜ r ≡ servedOf (judged m (coilWritten (now (b .entry)) m)) ⌝ }
+{
+    if b.len() != 4 {
+        return wrong_body(m);
+    }
+    let hs = m.thermostats;
+    let os = m.outputs;
+    let reading = m.reading;
+    let a = octets::word_from(b, 0);
+    let v = octets::word_from(b, 2);
+    let s = coils::write_coil(reading, hs, a, v, os);
+    let outputs = s.outputs;
+    echo(answers::put_outputs(m, s.refusal, outputs), b)
+}
+
+// 06: one register.
+fn write_register(m: Module, permitted: bool, b: &[u8]) -> Served
+    ensures { λ r. ⌜ r ≡ servedOf (judged m (registerWritten permitted (now (b .entry)) m)) ⌝ }
+{
+    if b.len() != 4 {
+        return wrong_body(m);
+    }
+    let a = octets::word_from(b, 0);
+    echo(write_group(m, permitted, true, a, &b[2..]), b)
+}
+
+// 0F: several coils.
+fn write_coils(m: Module, b: &[u8]) -> Served
+    ensures { λ r. ⌜ r ≡ servedOf (judged m (coilsWritten (now (b .entry)) m)) ⌝ }
+{
+    let n = octets::word_from(b, 2);
+    let size = ((n as usize) + 7) / 8;
+    if count_wrong(1968, size, b) {
+        return wrong_body(m);
+    }
+    let hs = m.thermostats;
+    let os = m.outputs;
+    let reading = m.reading;
+    let a = octets::word_from(b, 0);
+    let s = coils::write_coils(reading, hs, a, n, &b[5..], os);
+    let outputs = s.outputs;
+    echo(answers::put_outputs(m, s.refusal, outputs), b)
+}
+
+// 10H: several registers.
+fn write_registers(m: Module, permitted: bool, b: &[u8]) -> Served
+    ensures { λ r. ⌜ r ≡ servedOf (judged m (severalWritten permitted (now (b .entry)) m)) ⌝ }
+{
+    let n = octets::word_from(b, 2);
+    let size = 2 * (n as usize);
+    if count_wrong(123, size, b) {
+        return wrong_body(m);
+    }
+    let a = octets::word_from(b, 0);
+    echo(write_group(m, permitted, false, a, &b[5..]), b)
+}
+
+// A frame --------------------------------------------------------------------------------
+
+// The function byte: each arm one small function.
+fn serve(m: Module, permitted: bool, function: u8, b: &[u8]) -> Served
+    ensures { λ r. ⌜ r ≡ servedOf (judged m (modbusAsked permitted function (now (b .entry)) m)) ⌝ }
+{
+    match function {
+        0x01 => read_coils(m, b),
+        0x02 => read_inputs(m, b),
+        0x03 => read_registers(m, b),
+        0x04 => read_reading(m, b),
+        0x05 => write_coil(m, b),
+        0x06 => write_register(m, permitted, b),
+        0x0F => write_coils(m, b),
+        0x10 => write_registers(m, permitted, b),
+        _ => answers::bare(7, m),
+    }
+}
+
+// A request that passes 1 to 6 uses the port's permission up.
+fn use_up(m: Module) -> Module
+    ensures { λ r. ⌜ r ≡ modbusUsed m ⌝ }
+{
+    let modbus = settings::permitted(m.modbus, false);
+    let mut next = m;
+    next.modbus = modbus;
+    next
+}
+
+// The reply, or the exception: none to a broadcast.
+fn answer(own: u8, to: u8, function: u8, s: Served) -> Handled
+    ensures { λ r. ⌜ r ≡ answeredTo own to function s ⌝ }
+{
+    let refusal = s.refusal;
+    let after = s.after;
+    if to == 0 {
+        return Handled {
+            refusal,
+            after,
+            reply: octets::empty(),
+        };
+    }
+    if refusal != 0 {
+        return Handled {
+            refusal,
+            after,
+            reply: frames::exception_reply(own, function, frames::exception_of(refusal)),
+        };
+    }
+    let body = s.body;
+    Handled {
+        refusal,
+        after,
+        reply: frames::modbus_reply(own, function, body),
+    }
+}
+
+// A frame that passes 2 to 6.
+fn act(m: Module, frame: &[u8]) -> Handled
+    requires { ⌜ 4 ≤ length (now frame) ⌝ }
+    ensures { λ r. ⌜ r ≡ handledOf (modbusActed (now (frame .entry)) m) ⌝ }
+{
+    let port = m.modbus;
+    let to = frame[0];
+    let function = frame[1];
+    let b = frames::modbus_body(frame);
+    let s = serve(use_up(m), port.permitted, function, b);
+    answer(port.address, to, function, s)
+}
+
+// Any frame: checks 2 to 6, then the function.
+pub fn handle(m: Module, frame: &[u8]) -> Handled
+    ensures { λ r. ⌜ r ≡ handledOf (modbusHandled (now (frame .entry)) m) ⌝ }
+{
+    let port = m.modbus;
+    let refusal = frames::modbus_refusal(port.address, frame);
+    if refusal != 0 {
+        return answers::unheard(refusal, m);
+    }
+    act(m, frame)
+}
