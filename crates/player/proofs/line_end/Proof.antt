@@ -1,0 +1,58 @@
+-- `player::line_end` meets its contract. The loop's invariant: those passed and those to come are all. Assumes nothing.
+use borrow.Author.Needs.{needs}
+use native.Mathlib.Omega.{arith}
+use Prim.Native.Nat.{_≤_, _-_, _+_}
+use mathlib.Core.Path.{_≡_, ap, _∙_}
+use lib.ListN.{length, drop}
+use mathlib.Core.Bool.{not}
+use borrow.Author.Tests.{eq-eqb, ne-eqb}
+use Rattle.script.specs.Words.{leading}
+use Rattle.player.specs.Scripts.{inLine}
+use Rattle.script.proofs.Leading.{lead-goes, lead-stops, lead-ends}
+use Rattle.player.proofs.line_end.Statement.{statement}
+use Rattle.player.proofs.line_end.Tie as tie
+
+abbrev Inv-loop : tie.InvT-loop
+Inv-loop s i₀ i = (i ≤ length s) × (i + leading inLine (drop i s) ≡ leading inLine s)
+
+abbrev μ-loop : tie.MeasureT-loop
+μ-loop s i₀ i = length s - i
+
+loop-holds : tie.Need-loop-holds Inv-loop μ-loop
+loop-holds c = (omega arith, omega arith)
+
+shared-slice-read-if1 : tie.Need-shared-slice-read-if1 Inv-loop μ-loop
+shared-slice-read-if1 c = search needs
+
+returns : tie.Need-returns Inv-loop μ-loop
+returns c =
+    let at = c .before .before in
+    lead-stops inLine _ _ (at .loop-test .taken) (ap not (eq-eqb _ _ (c .if1 .taken))) ∙ at .before .loop .inv .1
+
+add-i : tie.Need-add-i Inv-loop μ-loop
+add-i c = search needs
+
+loop-less : tie.Need-loop-less Inv-loop μ-loop
+loop-less c = search needs
+
+loop-again : tie.Need-loop-again Inv-loop μ-loop
+loop-again c =
+    let at = c .before .before in
+    (omega arith, lead-goes inLine _ _ (at .loop-test .taken) (ap not (ne-eqb _ _ (c .if1 .left))) ∙ at .before .loop .inv .1)
+
+returns-2 : tie.Need-returns-2 Inv-loop μ-loop
+returns-2 c = lead-ends inLine _ _ (c .loop-test .left) ∙ c .before .loop .inv .1
+
+pub line-end-spec : {M : Type 1} → statement M
+line-end-spec =
+    tie.close
+    (tie.spec
+    Inv-loop
+    μ-loop
+    loop-holds
+    shared-slice-read-if1
+    returns
+    add-i
+    loop-less
+    loop-again
+    returns-2)

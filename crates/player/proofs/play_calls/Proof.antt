@@ -1,0 +1,111 @@
+-- `player::play_calls` meets its contract. Assumes nothing.
+use mir.Syntax.{w16}
+use mir.Val.{SFits}
+use mir.Facts.{toZ-ofZ}
+use native.Mathlib.Omega.{arith}
+use native.Mathlib.Nat.{min-le-right}
+use lib.ListN.{length, take, length-take}
+use mathlib.Core.Path.{_≡_}
+use Prim.Native.Nat.{_≤_}
+use borrow.Author.Tests.{ne-eqb}
+use Rattle.lists.proofs.DataLaws.{field-length}
+use Rattle.octets.proofs.Limit.{take-limited}
+use Rattle.model.specs.Calls.{step, run}
+use Rattle.player.specs.Scripts.{frameCall, lineCalls}
+use borrow.Author.Needs.{needs}
+use Rattle.player.proofs.play_calls.Statement.{statement}
+use Rattle.player.proofs.play_calls.Tie as tie
+
+full : (c : tie.Start) → length (c .args .x .frame) ≡ 300
+full c = field-length (c .args .x .frame) (search needs)
+
+within-frame-requires : tie.Need-within-frame-requires
+within-frame-requires c κs = search needs
+
+play-samples-requires : tie.Need-play-samples-requires
+play-samples-requires c κs = search needs
+
+play-temperature-requires : tie.Need-play-temperature-requires
+play-temperature-requires c κs = search needs
+
+play-temperature-requires-2 : tie.Need-play-temperature-requires-2
+play-temperature-requires-2 c κs = search needs
+
+-- a frame's length is within its array
+within : (c : tie.After-within-frame) → c .within-frame .result ≤ length (c .before .before .args .x .frame)
+within c = omega (arith, c .within-frame .ensures, min-le-right (c .before .before .args .x .len) 300, full (c .before .before))
+
+array-share-prefix-frame : tie.Need-array-share-prefix-frame
+array-share-prefix-frame c = within (c .before)
+
+slice-aggregate-play-frame : tie.Need-slice-aggregate-play-frame
+slice-aggregate-play-frame c = rw length-take (omega (arith, within (c .before .before)))
+
+play-frame-requires : tie.Need-play-frame-requires
+play-frame-requires c κs = search needs
+
+array-share-prefix-frame-2 : tie.Need-array-share-prefix-frame-2
+array-share-prefix-frame-2 c = within (c .before)
+
+slice-aggregate-play-frame-2 : tie.Need-slice-aggregate-play-frame-2
+slice-aggregate-play-frame-2 c = rw length-take (omega (arith, within (c .before .before)))
+
+play-frame-requires-2 : tie.Need-play-frame-requires-2
+play-frame-requires-2 c κs = search needs
+
+returns : tie.Need-returns
+unfolding lineCalls run step
+returns c = rw (c .before .match .keys1) (c .play-samples .ensures)
+
+returns-2 : tie.Need-returns-2
+unfolding lineCalls run step
+returns-2 c =
+    let fit : SFits w16 (c .before .before .before .before .before .args .x .tenths) = search needs in
+    rw (c .before .before .match .keys2) (rw (toZ-ofZ fit) at (c .play-temperature .ensures))
+
+returns-3 : tie.Need-returns-3
+unfolding lineCalls run step
+returns-3 c = rw (c .before .match .keys3) (c .play-temperature2 .ensures)
+
+-- the frame that is played is the line's
+framed : (c : tie.After-within-frame) → take (c .within-frame .result) (c .before .before .args .x .frame) ≡ take (c .before .before .args .x .len) (c .before .before .args .x .frame)
+framed c = rw (c .within-frame .ensures) (take-limited (c .before .before .args .x .len) 300 (c .before .before .args .x .frame) (full (c .before .before)))
+
+returns-4 : tie.Need-returns-4
+unfolding frameCall lineCalls run step
+returns-4 c =
+    let at = c .before .before in
+    rw (at .match .keys4) (rw (framed (at .before)) at (c .play-frame .ensures))
+
+returns-5 : tie.Need-returns-5
+unfolding frameCall lineCalls run step
+returns-5 c =
+    let at = c .before .before in
+    rw (at .match .keys5) (rw (framed (at .before)) at (c .play-frame2 .ensures))
+
+returns-6 : tie.Need-returns-6
+unfolding lineCalls run step
+returns-6 c =
+    let h = c .match .rest in
+    rw (ne-eqb _ _ (h .0 .0 .0 .0 .1), ne-eqb _ _ (h .0 .0 .0 .1), ne-eqb _ _ (h .0 .0 .1), ne-eqb _ _ (h .0 .1), ne-eqb _ _ (h .1))
+
+pub play-calls-spec : {M : Type 1} → statement M
+play-calls-spec =
+    tie.close
+    (tie.spec
+    within-frame-requires
+    play-samples-requires
+    play-temperature-requires
+    play-temperature-requires-2
+    array-share-prefix-frame
+    slice-aggregate-play-frame
+    play-frame-requires
+    array-share-prefix-frame-2
+    slice-aggregate-play-frame-2
+    play-frame-requires-2
+    returns
+    returns-2
+    returns-3
+    returns-4
+    returns-5
+    returns-6)
