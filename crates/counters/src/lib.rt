@@ -202,7 +202,7 @@ pub fn deduct_at(cs: [u16; 16], n: u8, v: u16) -> [u16; 16]
 }
 
 // A refused call: the counters as they were.
-fn deny(refusal: u8, cs: [u16; 16]) -> Judged
+pub fn deny(refusal: u8, cs: [u16; 16]) -> Judged
     ensures { λ r. ⌜ r ≡ judgedOf (refused refusal cs) ⌝ }
 {
     Judged {

@@ -1,4 +1,2 @@
 pub mod Bodies
-pub mod Echoes
-pub mod Laws
 pub mod Ranges

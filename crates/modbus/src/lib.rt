@@ -14,8 +14,7 @@ ghost use Rattle.model.specs.Registers.{writePermission, writePort, writeCounte
 ghost use Rattle.model.specs.Modbus.{startOf, secondOf, quantityWrong, countWrong, words, registersRead, registersWritten};
 ghost use Rattle.model.specs.Modbus.{coilWritten, registerWritten, coilsWritten, severalWritten, modbusAsked, modbusUsed, modbusActed, modbusHandled};
 ghost use Rattle.octets.specs.Answers.{toldOf};
-ghost use Rattle.answers.specs.Parts.{servedOf, handledOf, plain};
-ghost use Rattle.modbus.specs.Parts.{echoed, answeredTo};
+ghost use Rattle.answers.specs.Parts.{servedOf, handledOf};
 use answers::Handled;
 use answers::Served;
 use model::Line;
@@ -23,32 +22,7 @@ use model::Module;
 use model::Output;
 use octets::Told;
 
-// 8: the body is not what its function names.
-fn wrong_body(m: Module) -> Served
-    ensures { λ r. ⌜ r ≡ plain 8 m ⌝ }
-{
-    answers::bare(8, m)
-}
-
-// 9: in no group open to the function.
-fn no_group(m: Module) -> Served
-    ensures { λ r. ⌜ r ≡ plain 9 m ⌝ }
-{
-    answers::bare(9, m)
-}
-
 // Reading --------------------------------------------------------------------------------
-
-// 8: other than a start and a quantity of 1 to `most`.
-fn quantity_wrong(most: u16, b: &[u8]) -> bool
-    ensures { λ r. ⌜ r ≡ quantityWrong most (now (b .entry)) ⌝ }
-{
-    if b.len() != 4 {
-        return true;
-    }
-    let n = octets::word_from(b, 2);
-    (n < 1) | (most < n)
-}
 
 // Outputs as coils, n from place a on.
 fn coils_told(os: [Output; 16], a: u16, n: u16) -> Told
@@ -68,8 +42,8 @@ fn inputs_told(lines: [Line; 16], a: u16, n: u16) -> Told
 fn read_coils(m: Module, b: &[u8]) -> Served
     ensures { λ r. ⌜ r ≡ servedOf (judged m (refuse8 (quantityWrong 2000 (now (b .entry))) (readBits (outputStates (m .outputs)) (startOf (now (b .entry))) (secondOf (now (b .entry))) m))) ⌝ }
 {
-    if quantity_wrong(2000, b) {
-        return wrong_body(m);
+    if bodies::quantity_wrong(2000, b) {
+        return bodies::wrong_body(m);
     }
     let os = m.outputs;
     let a = octets::word_from(b, 0);
@@ -81,8 +55,8 @@ fn read_coils(m: Module, b: &[u8]) -> Served
 fn read_inputs(m: Module, b: &[u8]) -> Served
     ensures { λ r. ⌜ r ≡ servedOf (judged m (refuse8 (quantityWrong 2000 (now (b .entry))) (readBits (inputStates (m .inputs)) (startOf (now (b .entry))) (secondOf (now (b .entry))) m))) ⌝ }
 {
-    if quantity_wrong(2000, b) {
-        return wrong_body(m);
+    if bodies::quantity_wrong(2000, b) {
+        return bodies::wrong_body(m);
     }
     let x = m.inputs;
     let lines = x.lines;
@@ -142,7 +116,7 @@ fn read_group(m: Module, a: u16, n: u16) -> Served
         300..=315 => read_modes(m, a, n),
         500..=515 => read_outputs(m, a, n),
         600..=663 => read_thermostat(m, a, n),
-        _ => no_group(m),
+        _ => bodies::no_group(m),
     }
 }
 
@@ -150,8 +124,8 @@ fn read_group(m: Module, a: u16, n: u16) -> Served
 fn read_registers(m: Module, b: &[u8]) -> Served
     ensures { λ r. ⌜ r ≡ servedOf (judged m (refuse8 (quantityWrong 125 (now (b .entry))) (registersRead (startOf (now (b .entry))) (secondOf (now (b .entry))) m))) ⌝ }
 {
-    if quantity_wrong(125, b) {
-        return wrong_body(m);
+    if bodies::quantity_wrong(125, b) {
+        return bodies::wrong_body(m);
     }
     let a = octets::word_from(b, 0);
     let n = octets::word_from(b, 2);
@@ -162,8 +136,8 @@ fn read_registers(m: Module, b: &[u8]) -> Served
 fn read_reading(m: Module, b: &[u8]) -> Served
     ensures { λ r. ⌜ r ≡ servedOf (judged m (refuse8 (quantityWrong 125 (now (b .entry))) (readWords 0 (readingWords (m .reading)) (startOf (now (b .entry))) (secondOf (now (b .entry))) m))) ⌝ }
 {
-    if quantity_wrong(125, b) {
-        return wrong_body(m);
+    if bodies::quantity_wrong(125, b) {
+        return bodies::wrong_body(m);
     }
     let reading = m.reading;
     let a = octets::word_from(b, 0);
@@ -172,39 +146,6 @@ fn read_reading(m: Module, b: &[u8]) -> Served
 }
 
 // Writing --------------------------------------------------------------------------------
-
-// 8: other than a start, a quantity of 1 to `most`, the byte count `size` and so many bytes.
-fn count_wrong(most: u16, size: usize, b: &[u8]) -> bool
-    ensures { λ r. ⌜ r ≡ countWrong most size (now (b .entry)) ⌝ }
-{
-    let n = octets::word_from(b, 2);
-    if (n < 1) | (most < n) {
-        return true;
-    }
-    let count = octets::at(b, 4) as usize;
-    if count != size {
-        return true;
-    }
-    b.len() != 5 + count
-}
-
-// The answer to a write: where it is accepted, the first four bytes of its body come back.
-fn echo(s: Served, b: &[u8]) -> Served
-    requires { ⌜ 4 ≤ length (now b) ⌝ }
-    ensures { λ r. ⌜ r ≡ echoed (take 4 (now (b .entry))) s ⌝ }
-{
-    if s.refusal != 0 {
-        return s;
-    }
-    let two = octets::push(octets::push(octets::empty(), b[0]), b[1]);
-    let four = octets::push(octets::push(two, b[2]), b[3]);
-    let after = s.after;
-    Served {
-        refusal: 0,
-        after,
-        body: four,
-    }
-}
 
 // 0
 fn write_permission(m: Module, single: bool, d: &[u8]) -> Served
@@ -293,7 +234,7 @@ fn write_group(m: Module, permitted: bool, single: bool, a: u16, d: &[u8]) -> Se
         300..=315 => write_modes(m, a, d),
         500..=515 => write_pulse(m, a, d),
         600..=663 => write_thermostat(m, a, d),
-        _ => no_group(m),
+        _ => bodies::no_group(m),
     }
 }
 
@@ -302,7 +243,7 @@ fn write_coil(m: Module, b: &[u8]) -> Served
     ensures { λ r. ⌜ r ≡ servedOf (judged m (coilWritten (now (b .entry)) m)) ⌝ }
 {
     if b.len() != 4 {
-        return wrong_body(m);
+        return bodies::wrong_body(m);
     }
     let hs = m.thermostats;
     let os = m.outputs;
@@ -311,7 +252,7 @@ fn write_coil(m: Module, b: &[u8]) -> Served
     let v = octets::word_from(b, 2);
     let s = coils::write_coil(reading, hs, a, v, os);
     let outputs = s.outputs;
-    echo(answers::put_outputs(m, s.refusal, outputs), b)
+    bodies::echo(answers::put_outputs(m, s.refusal, outputs), b)
 }
 
 // 06: one register.
@@ -319,10 +260,10 @@ fn write_register(m: Module, permitted: bool, b: &[u8]) -> Served
     ensures { λ r. ⌜ r ≡ servedOf (judged m (registerWritten permitted (now (b .entry)) m)) ⌝ }
 {
     if b.len() != 4 {
-        return wrong_body(m);
+        return bodies::wrong_body(m);
     }
     let a = octets::word_from(b, 0);
-    echo(write_group(m, permitted, true, a, &b[2..]), b)
+    bodies::echo(write_group(m, permitted, true, a, &b[2..]), b)
 }
 
 // 0F: several coils.
@@ -331,8 +272,8 @@ fn write_coils(m: Module, b: &[u8]) -> Served
 {
     let n = octets::word_from(b, 2);
     let size = ((n as usize) + 7) / 8;
-    if count_wrong(1968, size, b) {
-        return wrong_body(m);
+    if bodies::count_wrong(1968, size, b) {
+        return bodies::wrong_body(m);
     }
     let hs = m.thermostats;
     let os = m.outputs;
@@ -340,7 +281,7 @@ fn write_coils(m: Module, b: &[u8]) -> Served
     let a = octets::word_from(b, 0);
     let s = coils::write_coils(reading, hs, a, n, &b[5..], os);
     let outputs = s.outputs;
-    echo(answers::put_outputs(m, s.refusal, outputs), b)
+    bodies::echo(answers::put_outputs(m, s.refusal, outputs), b)
 }
 
 // 10H: several registers.
@@ -349,11 +290,11 @@ fn write_registers(m: Module, permitted: bool, b: &[u8]) -> Served
 {
     let n = octets::word_from(b, 2);
     let size = 2 * (n as usize);
-    if count_wrong(123, size, b) {
-        return wrong_body(m);
+    if bodies::count_wrong(123, size, b) {
+        return bodies::wrong_body(m);
     }
     let a = octets::word_from(b, 0);
-    echo(write_group(m, permitted, false, a, &b[5..]), b)
+    bodies::echo(write_group(m, permitted, false, a, &b[5..]), b)
 }
 
 // A frame --------------------------------------------------------------------------------
@@ -375,44 +316,6 @@ fn serve(m: Module, permitted: bool, function: u8, b: &[u8]) -> Served
     }
 }
 
-// A request that passes 1 to 6 uses the port's permission up.
-fn use_up(m: Module) -> Module
-    ensures { λ r. ⌜ r ≡ modbusUsed m ⌝ }
-{
-    let modbus = settings::permitted(m.modbus, false);
-    let mut next = m;
-    next.modbus = modbus;
-    next
-}
-
-// The reply, or the exception: none to a broadcast.
-fn answer(own: u8, to: u8, function: u8, s: Served) -> Handled
-    ensures { λ r. ⌜ r ≡ answeredTo own to function s ⌝ }
-{
-    let refusal = s.refusal;
-    let after = s.after;
-    if to == 0 {
-        return Handled {
-            refusal,
-            after,
-            reply: octets::empty(),
-        };
-    }
-    if refusal != 0 {
-        return Handled {
-            refusal,
-            after,
-            reply: frames::exception_reply(own, function, frames::exception_of(refusal)),
-        };
-    }
-    let body = s.body;
-    Handled {
-        refusal,
-        after,
-        reply: frames::modbus_reply(own, function, body),
-    }
-}
-
 // A frame that passes 2 to 6.
 fn act(m: Module, frame: &[u8]) -> Handled
     requires { ⌜ 4 ≤ length (now frame) ⌝ }
@@ -422,8 +325,8 @@ fn act(m: Module, frame: &[u8]) -> Handled
     let to = frame[0];
     let function = frame[1];
     let b = frames::modbus_body(frame);
-    let s = serve(use_up(m), port.permitted, function, b);
-    answer(port.address, to, function, s)
+    let s = serve(bodies::use_up(m), port.permitted, function, b);
+    bodies::answer(port.address, to, function, s)
 }
 
 // Any frame: checks 2 to 6, then the function.

@@ -42,10 +42,7 @@ fn deduct_from(first: u8, d: &[u8], cs: [u16; 16]) -> Judged
     while 1 < d.len() - i {
         let v = octets::be16(d[i], d[i + 1]);
         if !counters::fits_at(copy, n, v) {
-            return Judged {
-                refusal: 11,
-                counters: cs,
-            };
+            return counters::deny(11, cs);
         }
         let next = counters::deduct_at(copy, n, v);
         copy = next;
@@ -64,16 +61,10 @@ pub fn write_deductions(a: u16, d: &[u8], cs: [u16; 16]) -> Judged
 {
     let count = d.len() / 2;
     if 216 < (a as usize) + count {
-        return Judged {
-            refusal: 9,
-            counters: cs,
-        };
+        return counters::deny(9, cs);
     }
     if 12 < count {
-        return Judged {
-            refusal: 9,
-            counters: cs,
-        };
+        return counters::deny(9, cs);
     }
     let first = octets::less(a, 199) as u8;
     deduct_from(first, d, cs)
@@ -226,19 +217,16 @@ fn clear_at(cs: [u16; 16], n: usize) -> [u16; 16]
 }
 
 // 100 to 115: zeros in turn from input `first` on clear, on a copy.
-fn clear_from(first: u16, d: &[u8], cs: [u16; 16]) -> Judged
-    ensures { λ r. ⌜ r ≡ countersCleared first (words (now (d .entry))) cs ⌝ }
+fn clear_from(first: u16, d: &[u8], start: [u16; 16]) -> Judged
+    ensures { λ r. ⌜ r ≡ countersCleared first (words (now (d .entry))) start ⌝ }
 {
-    let mut copy = cs;
+    let mut copy = start;
     let mut n = first as usize;
     let mut i = 0;
     while 1 < d.len() - i {
         let v = octets::be16(d[i], d[i + 1]);
         if v != 0 {
-            return Judged {
-                refusal: 11,
-                counters: cs,
-            };
+            return counters::deny(11, start);
         }
         let next = clear_at(copy, n);
         copy = next;
@@ -256,10 +244,7 @@ pub fn write_counters(a: u16, d: &[u8], cs: [u16; 16]) -> Judged
     ensures { λ r. ⌜ r ≡ judgedOf (judged cs (writeCounters a (words (now (d .entry))) cs)) ⌝ }
 {
     if 116 < (a as usize) + d.len() / 2 {
-        return Judged {
-            refusal: 9,
-            counters: cs,
-        };
+        return counters::deny(9, cs);
     }
     let first = octets::less(a, 99);
     clear_from(first, d, cs)

@@ -7,7 +7,7 @@ use Rattle.model.specs.Modbus.{modbusActed, modbusUsed}
 use Rattle.model.proofs.Short.{modbus-short}
 use Rattle.modbus.proofs.act.Statement.{statement}
 use Rattle.modbus.proofs.act.Tie as tie
-use Rattle.modbus.proofs.Echoes.{answered-law}
+use Rattle.bodies.proofs.Echoes.{answered-law}
 
 shared-slice-read-to : tie.Need-shared-slice-read-to
 shared-slice-read-to c = search needs

@@ -10,8 +10,8 @@ use Rattle.model.specs.Temperature.{readingWords}
 use Rattle.model.specs.Modbus.{startOf, secondOf, quantityWrong}
 use Rattle.modbus.proofs.read_reading.Statement.{statement}
 use Rattle.modbus.proofs.read_reading.Tie as tie
-use Rattle.modbus.proofs.Laws.{refused-8, passed-8}
-use Rattle.modbus.proofs.Laws.{refused-8, passed-8}
+use Rattle.bodies.proofs.Laws.{refused-8, passed-8}
+use Rattle.bodies.proofs.Laws.{refused-8, passed-8}
 
 quantity-wrong-requires : tie.Need-quantity-wrong-requires
 quantity-wrong-requires c κs = search needs

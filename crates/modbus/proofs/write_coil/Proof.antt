@@ -1,7 +1,8 @@
 -- `modbus::write_coil` meets its contract. Assumes nothing.
 use borrow.Author.Needs.{needs}
 use denote.Ref.{now}
-use mathlib.Core.Path.{refl, ap}
+use native.Mathlib.Omega.{arith}
+use mathlib.Core.Path.{refl, ap, _∙_}
 use mathlib.Core.Bool.{not, _||_}
 use mathlib.Core.List.{[], _∷_}
 use Prim.Native.Nat.{_/_}
@@ -18,7 +19,8 @@ use Rattle.model.specs.Registers.{writeCoils}
 use Rattle.model.specs.Modbus.{startOf, secondOf, coilWritten}
 use Rattle.modbus.proofs.write_coil.Statement.{statement}
 use Rattle.modbus.proofs.write_coil.Tie as tie
-use Rattle.modbus.proofs.Echoes.{written-law}
+use Rattle.bodies.specs.Parts.{headOf}
+use Rattle.bodies.proofs.Echoes.{head-law, written-law}
 
 wrong-body-requires : tie.Need-wrong-body-requires
 wrong-body-requires c κs = search needs
@@ -53,10 +55,10 @@ returns-2 c =
     let a = e .before .before .args in
     let b = now (a .b) in
     let q = refuse11 (not (eqb (secondOf b) 0xFF00 || eqb (secondOf b) 0x0000)) (writeCoils (a .m .reading) (a .m .thermostats) (startOf b) (secondOf b / 0xFF00 ∷ []) (a .m .outputs)) in
-    rw (c .echo .ensures, take-all 4 b (le-of-eq (e .if1 .left)))
-    (written-law (a .m) (onPart (withOutputs (a .m)) q) b (not (eqb (length b) 4)) (put .put-outputs .result)
+    c .echo .ensures
+    ∙ written-law (a .m) (onPart (withOutputs (a .m)) q) (headOf b) b (not (eqb (length b) 4)) (put .put-outputs .result) (head-law b (omega (arith, e .if1 .left)) ∙ take-all 4 b (le-of-eq (e .if1 .left)))
     (rw (put .put-outputs .ensures, s .write-coil .ensures, second .word-from2 .ensures, first .word-from .ensures) (part-law (withOutputs (a .m)) (a .m .outputs) q refl))
-    (ap not (eq-eqb (length b) 4 (e .if1 .left))))
+    (ap not (eq-eqb (length b) 4 (e .if1 .left)))
 
 pub write-coil-spec : {M : Type 1} → statement M
 write-coil-spec =

@@ -13,8 +13,9 @@ use Rattle.model.specs.Registers.{writeCoils}
 use Rattle.model.specs.Modbus.{startOf, secondOf, countWrong, bitsFrom, answering, coilsWritten}
 use Rattle.modbus.proofs.write_coils.Statement.{statement}
 use Rattle.modbus.proofs.write_coils.Tie as tie
-use Rattle.modbus.proofs.Laws.{refused-8}
-use Rattle.modbus.proofs.Echoes.{written-law}
+use Rattle.bodies.proofs.Laws.{refused-8}
+use Rattle.bodies.specs.Parts.{headOf}
+use Rattle.bodies.proofs.Echoes.{head-law, written-law}
 use Rattle.modbus.proofs.Bodies.{rest-whole, counted}
 
 -- a body that passes has its head
@@ -66,7 +67,7 @@ put-outputs-requires : tie.Need-put-outputs-requires
 put-outputs-requires c κs = search needs
 
 echo-requires : tie.Need-echo-requires
-echo-requires c κs = omega (arith, long (c .before .before .before .before .before .before .before))
+echo-requires c κs = search needs
 
 returns-2 : tie.Need-returns-2
 unfolding coilsWritten writeCoils actOn
@@ -80,10 +81,10 @@ returns-2 c =
     let a = n .before .before .args in
     let b = now (a .b) in
     let q = writeCoils (a .m .reading) (a .m .thermostats) (startOf b) (bitsFrom 0 (secondOf b) (drop 5 b)) (a .m .outputs) in
-    rw (c .echo .ensures)
-    (written-law (a .m) (onPart (withOutputs (a .m)) q) (take 4 b) (countWrong 1968 ((secondOf b + 7) / 8) b) (put .put-outputs .result)
+    c .echo .ensures
+    ∙ written-law (a .m) (onPart (withOutputs (a .m)) q) (headOf b) (take 4 b) (countWrong 1968 ((secondOf b + 7) / 8) b) (put .put-outputs .result) (head-law b (omega (arith, long e)))
     (rw (put .put-outputs .ensures, s .write-coils .ensures, first .word-from2 .ensures, n .word-from .ensures, rest-whole 5 b) (part-law (withOutputs (a .m)) (a .m .outputs) q refl))
-    (sym (rw (n .word-from .ensures) at (k .count-wrong .ensures)) ∙ e .if1 .left))
+    (sym (rw (n .word-from .ensures) at (k .count-wrong .ensures)) ∙ e .if1 .left)
 
 pub write-coils-spec : {M : Type 1} → statement M
 write-coils-spec =

@@ -1,6 +1,7 @@
 -- `modbus::write_register` meets its contract. Assumes nothing.
 use borrow.Author.Needs.{needs}
 use denote.Ref.{now}
+use native.Mathlib.Omega.{arith}
 use mathlib.Core.Path.{ap, _∙_}
 use mathlib.Core.Bool.{true, not}
 use mathlib.Core.List.{[], _∷_}
@@ -12,8 +13,9 @@ use borrow.Author.Tests.{eq-eqb, ne-eqb}
 use Rattle.model.specs.Modbus.{startOf, secondOf, answering, registersWritten, registerWritten}
 use Rattle.modbus.proofs.write_register.Statement.{statement}
 use Rattle.modbus.proofs.write_register.Tie as tie
-use Rattle.modbus.proofs.Laws.{refused-8}
-use Rattle.modbus.proofs.Echoes.{written-law}
+use Rattle.bodies.proofs.Laws.{refused-8}
+use Rattle.bodies.specs.Parts.{headOf}
+use Rattle.bodies.proofs.Echoes.{head-law, written-law}
 use Rattle.modbus.proofs.Bodies.{rest-whole, one-word}
 use Rattle.modbus.proofs.Ranges.{writes-listed}
 
@@ -56,10 +58,10 @@ returns-2 c =
     let a = e .before .before .args in
     let b = now (a .b) in
     let q = registersWritten (a .permitted) true (startOf b) (secondOf b ∷ []) (a .m) in
-    rw (c .echo .ensures, take-all 4 b (le-of-eq (e .if1 .left)))
-    (written-law (a .m) q b (not (eqb (length b) 4)) (g .write-group .result)
+    c .echo .ensures
+    ∙ written-law (a .m) q (headOf b) b (not (eqb (length b) 4)) (g .write-group .result) (head-law b (omega (arith, e .if1 .left)) ∙ take-all 4 b (le-of-eq (e .if1 .left)))
     (rw (g .write-group .ensures, first .word-from .ensures, rest-whole 2 b, one-word b (e .if1 .left)))
-    (ap not (eq-eqb (length b) 4 (e .if1 .left))))
+    (ap not (eq-eqb (length b) 4 (e .if1 .left)))
 
 pub write-register-spec : {M : Type 1} → statement M
 write-register-spec =

@@ -9,8 +9,9 @@ use native.Mathlib.Omega.{arith}
 use Rattle.model.specs.Modbus.{startOf, secondOf, countWrong, words, answering, registersWritten, severalWritten}
 use Rattle.modbus.proofs.write_registers.Statement.{statement}
 use Rattle.modbus.proofs.write_registers.Tie as tie
-use Rattle.modbus.proofs.Laws.{refused-8}
-use Rattle.modbus.proofs.Echoes.{written-law}
+use Rattle.bodies.proofs.Laws.{refused-8}
+use Rattle.bodies.specs.Parts.{headOf}
+use Rattle.bodies.proofs.Echoes.{head-law, written-law}
 use Rattle.modbus.proofs.Bodies.{rest-whole, counted}
 use Rattle.modbus.proofs.Ranges.{writes-listed}
 
@@ -61,7 +62,7 @@ write-group-requires : tie.Need-write-group-requires
 write-group-requires c κs = search needs
 
 echo-requires : tie.Need-echo-requires
-echo-requires c κs = omega (arith, long (c .before .before .before))
+echo-requires c κs = search needs
 
 returns-2 : tie.Need-returns-2
 unfolding severalWritten
@@ -74,10 +75,10 @@ returns-2 c =
     let a = n .before .before .args in
     let b = now (a .b) in
     let q = registersWritten (a .permitted) false (startOf b) (words (drop 5 b)) (a .m) in
-    rw (c .echo .ensures)
-    (written-law (a .m) q (take 4 b) (countWrong 123 (2 * secondOf b) b) (g .write-group .result)
+    c .echo .ensures
+    ∙ written-law (a .m) q (headOf b) (take 4 b) (countWrong 123 (2 * secondOf b) b) (g .write-group .result) (head-law b (omega (arith, long e)))
     (rw (g .write-group .ensures, first .word-from2 .ensures, rest-whole 5 b))
-    (sym (rw (n .word-from .ensures) at (k .count-wrong .ensures)) ∙ e .if1 .left))
+    (sym (rw (n .word-from .ensures) at (k .count-wrong .ensures)) ∙ e .if1 .left)
 
 pub write-registers-spec : {M : Type 1} → statement M
 write-registers-spec =

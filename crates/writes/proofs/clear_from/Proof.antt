@@ -39,16 +39,20 @@ shared-slice-read-be16-2 c = omega arith
 be16-requires : tie.Need-be16-requires Inv-loop μ-loop
 be16-requires c κs = tt
 
+deny-requires : tie.Need-deny-requires Inv-loop μ-loop
+deny-requires c κs = tt
+
 returns : tie.Need-returns Inv-loop μ-loop
 unfolding isZero
 returns c =
-    let v = c .before in
+    let v = c .before .before in
     let at = v .before .before .before .before in
     let from = at .before .before .args in
-    let bad = rw (v .be16 .ensures) at (ne-eqb _ 0 (c .if1 .taken)) in
-    value-stops (onCopy isZero) clearOne (cleared 0) (cleared 11 (from .cs)) (now (from .d)) (at .loop .i) (at .loop .n) (at .loop .copy) (omega arith) bad
+    let bad = rw (v .be16 .ensures) at (ne-eqb _ 0 (c .before .if1 .taken)) in
+    c .deny .ensures
+    ∙ value-stops (onCopy isZero) clearOne (cleared 0) (cleared 11 (from .start)) (now (from .d)) (at .loop .i) (at .loop .n) (at .loop .copy) (omega arith) bad
     ∙ at .loop .inv .1
-    ∙ clears-taken (from .first) (words (now (from .d))) (from .cs)
+    ∙ clears-taken (from .first) (words (now (from .d))) (from .start)
 
 clear-at-requires : tie.Need-clear-at-requires Inv-loop μ-loop
 clear-at-requires c κs = tt
@@ -69,15 +73,15 @@ loop-again c =
     let at = v .before .before .before .before in
     let from = at .before .before .args in
     let good = rw (v .be16 .ensures) at (eq-eqb _ 0 (c .before .if1 .left)) in
-    ((omega arith, omega arith), rw (c .clear-at .ensures) (value-goes (onCopy isZero) clearOne (cleared 0) (cleared 11 (from .cs)) (now (from .d)) (at .loop .i) (at .loop .n) (at .loop .copy) (omega arith) good ∙ at .loop .inv .1))
+    ((omega arith, omega arith), rw (c .clear-at .ensures) (value-goes (onCopy isZero) clearOne (cleared 0) (cleared 11 (from .start)) (now (from .d)) (at .loop .i) (at .loop .n) (at .loop .copy) (omega arith) good ∙ at .loop .inv .1))
 
 returns-2 : tie.Need-returns-2 Inv-loop μ-loop
 returns-2 c =
     let at = c .before in
     let from = at .before .before .args in
-    values-end (onCopy isZero) clearOne (cleared 0) (cleared 11 (from .cs)) (now (from .d)) (at .loop .i) (at .loop .n) (at .loop .copy) (omega arith)
+    values-end (onCopy isZero) clearOne (cleared 0) (cleared 11 (from .start)) (now (from .d)) (at .loop .i) (at .loop .n) (at .loop .copy) (omega arith)
     ∙ at .loop .inv .1
-    ∙ clears-taken (from .first) (words (now (from .d))) (from .cs)
+    ∙ clears-taken (from .first) (words (now (from .d))) (from .start)
 
 pub clear-from-spec : {M : Type 1} → statement M
 clear-from-spec =
@@ -91,6 +95,7 @@ clear-from-spec =
     add-be16
     shared-slice-read-be16-2
     be16-requires
+    deny-requires
     returns
     clear-at-requires
     add-n

@@ -41,13 +41,17 @@ be16-requires c κs = tt
 fits-at-requires : tie.Need-fits-at-requires Inv-loop μ-loop
 fits-at-requires c κs = tt
 
+deny-requires : tie.Need-deny-requires Inv-loop μ-loop
+deny-requires c κs = tt
+
 returns : tie.Need-returns Inv-loop μ-loop
 returns c =
-    let f = c .before in
+    let f = c .before .before in
     let at = f .before .before .before .before .before in
     let from = at .before .before .args in
-    let over = rw (f .before .be16 .ensures) at (sym (f .fits-at .ensures) ∙ not-true _ (c .if1 .taken)) in
-    value-stops deductible deductOne deducted (notDeducted (from .cs)) (now (from .d)) (at .loop .i) (at .loop .n) (at .loop .copy) (omega arith) over
+    let over = rw (f .before .be16 .ensures) at (sym (f .fits-at .ensures) ∙ not-true _ (c .before .if1 .taken)) in
+    c .deny .ensures
+    ∙ value-stops deductible deductOne deducted (notDeducted (from .cs)) (now (from .d)) (at .loop .i) (at .loop .n) (at .loop .copy) (omega arith) over
     ∙ at .loop .inv .1
     ∙ deduct-walk (from .cs) (numbered (from .first) (words (now (from .d))))
 
@@ -95,6 +99,7 @@ deduct-from-spec =
     shared-slice-read-be16-2
     be16-requires
     fits-at-requires
+    deny-requires
     returns
     deduct-at-requires
     add-n

@@ -11,9 +11,12 @@ use Rattle.writes.proofs.write_counters.Tie as tie
 add-if1 : tie.Need-add-if1
 add-if1 c = search needs
 
+deny-requires : tie.Need-deny-requires
+deny-requires c κs = search needs
+
 returns : tie.Need-returns
 unfolding writeCounters judged
-returns c = rw (words-length, lt-ltb 116 _ (c .if1 .taken))
+returns c = rw (c .deny .ensures, words-length, lt-ltb 116 _ (c .before .if1 .taken))
 
 less-requires : tie.Need-less-requires
 less-requires c κs = search needs
@@ -27,4 +30,4 @@ returns-2 c = rw (c .clear-from .ensures, c .before .less .ensures, words-length
 
 pub write-counters-spec : {M : Type 1} → statement M
 write-counters-spec =
-    tie.close (tie.spec add-if1 returns less-requires clear-from-requires returns-2)
+    tie.close (tie.spec add-if1 deny-requires returns less-requires clear-from-requires returns-2)

@@ -12,13 +12,19 @@ use Rattle.writes.proofs.write_deductions.Tie as tie
 add-if1 : tie.Need-add-if1
 add-if1 c = search needs
 
+deny-requires : tie.Need-deny-requires
+deny-requires c κs = search needs
+
 returns : tie.Need-returns
 unfolding writeDeductions deduct judged
-returns c = rw (words-length, lt-ltb _ _ (c .if1 .taken))
+returns c = rw (c .deny .ensures, words-length, lt-ltb 216 _ (c .before .if1 .taken))
+
+deny-requires-2 : tie.Need-deny-requires-2
+deny-requires-2 c κs = search needs
 
 returns-2 : tie.Need-returns-2
 unfolding writeDeductions deduct judged
-returns-2 c = rw (words-length, le-ltb _ _ (c .before .if1 .left), lt-ltb 12 _ (c .if2 .taken))
+returns-2 c = rw (c .deny2 .ensures, words-length, le-ltb 216 _ (c .before .before .if1 .left), lt-ltb 12 _ (c .before .if2 .taken))
 
 less-requires : tie.Need-less-requires
 less-requires c κs = search needs
@@ -38,4 +44,4 @@ returns-3 c =
 pub write-deductions-spec : {M : Type 1} → statement M
 write-deductions-spec =
     tie.close
-    (tie.spec add-if1 returns returns-2 less-requires cast-first deduct-from-requires returns-3)
+    (tie.spec add-if1 deny-requires returns deny-requires-2 returns-2 less-requires cast-first deduct-from-requires returns-3)

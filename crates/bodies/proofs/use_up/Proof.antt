@@ -1,7 +1,7 @@
--- `modbus::use_up` meets its contract. Assumes nothing.
+-- `bodies::use_up` meets its contract. Assumes nothing.
 use borrow.Author.Needs.{needs}
-use Rattle.modbus.proofs.use_up.Statement.{statement}
-use Rattle.modbus.proofs.use_up.Tie as tie
+use Rattle.bodies.proofs.use_up.Statement.{statement}
+use Rattle.bodies.proofs.use_up.Tie as tie
 
 permitted-requires : tie.Need-permitted-requires
 permitted-requires c κs = search needs

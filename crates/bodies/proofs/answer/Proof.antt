@@ -1,8 +1,8 @@
--- `modbus::answer` meets its contract. Assumes nothing.
+-- `bodies::answer` meets its contract. Assumes nothing.
 use borrow.Author.Needs.{needs}
 use borrow.Author.Tests.{eq-eqb, ne-eqb}
-use Rattle.modbus.proofs.answer.Statement.{statement}
-use Rattle.modbus.proofs.answer.Tie as tie
+use Rattle.bodies.proofs.answer.Statement.{statement}
+use Rattle.bodies.proofs.answer.Tie as tie
 
 empty-requires : tie.Need-empty-requires
 empty-requires c κs = search needs

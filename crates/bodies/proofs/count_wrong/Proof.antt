@@ -1,10 +1,10 @@
--- `modbus::count_wrong` meets its contract. Assumes nothing.
+-- `bodies::count_wrong` meets its contract. Assumes nothing.
 use borrow.Author.Needs.{needs}
 use borrow.Author.Tests.{eq-eqb, ne-eqb}
 use Rattle.model.specs.Modbus.{countWrong}
-use Rattle.modbus.proofs.count_wrong.Statement.{statement}
-use Rattle.modbus.proofs.count_wrong.Tie as tie
-use Rattle.modbus.proofs.Laws.{is-outside, is-inside}
+use Rattle.bodies.proofs.count_wrong.Statement.{statement}
+use Rattle.bodies.proofs.count_wrong.Tie as tie
+use Rattle.bodies.proofs.Laws.{is-outside, is-inside}
 
 word-from-requires : tie.Need-word-from-requires
 word-from-requires c κs = search needs

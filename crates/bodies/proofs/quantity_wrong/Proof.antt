@@ -1,11 +1,11 @@
--- `modbus::quantity_wrong` meets its contract. Assumes nothing.
+-- `bodies::quantity_wrong` meets its contract. Assumes nothing.
 use borrow.Author.Needs.{needs}
 use borrow.Author.Tests.{ne-eqb}
 use borrow.Author.Tests.{ne-eqb, eq-eqb}
 use Rattle.model.specs.Modbus.{quantityWrong}
-use Rattle.modbus.proofs.quantity_wrong.Statement.{statement}
-use Rattle.modbus.proofs.quantity_wrong.Tie as tie
-use Rattle.modbus.proofs.Laws.{outside}
+use Rattle.bodies.proofs.quantity_wrong.Statement.{statement}
+use Rattle.bodies.proofs.quantity_wrong.Tie as tie
+use Rattle.bodies.proofs.Laws.{outside}
 
 returns : tie.Need-returns
 unfolding quantityWrong

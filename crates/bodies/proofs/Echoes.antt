@@ -4,7 +4,7 @@ use native.Mathlib.Omega.{arith}
 use mathlib.Core.Path.{_≡_, refl, ap, _∙_}
 use mathlib.Core.Bool.{Bool, true, false, cond}
 use mathlib.Core.List.{List, [], _∷_}
-use lib.ListN.{length, getD, take}
+use lib.ListN.{length, take}
 use lib.Dec.{eqb}
 use Rattle.lists.specs.Data.{dataOf, pushed}
 use Rattle.lists.specs.declared.Data.{Data}
@@ -17,8 +17,8 @@ use Rattle.model.specs.Modbus.{answering, modbusAnswered}
 use Rattle.frames.proofs.Framing.{modbus-law}
 use Rattle.answers.specs.declared.Served.{Served}
 use Rattle.answers.specs.Parts.{servedOf, handledOf}
-use Rattle.modbus.specs.Parts.{echoed, answeredTo}
-use Rattle.modbus.proofs.Laws.{passed-8}
+use Rattle.bodies.specs.Parts.{headOf, echoed, answeredTo}
+use Rattle.bodies.proofs.Laws.{passed-8}
 
 -- only an accepted request's data changes
 pub echo-law : (m : Module) (q : Request Module) (b : List ℕ) → echoed b (servedOf (judged m q)) ≡ servedOf (judged m (answering b q))
@@ -39,20 +39,19 @@ echo-law m q b = go (q .unlisted) (q .lengthWrong) (q .rangeWrong) (q .notPermit
     go false false false false false true = refl
     go false false false false false false = refl
 
--- a write whose body passes
-pub written-law : (m : Module) (q : Request Module) (b : List ℕ) (wrong : Bool) (s : Served) → s ≡ servedOf (judged m q) → wrong ≡ false → echoed b s ≡ servedOf (judged m (refuse8 wrong (answering b q)))
-written-law m q b wrong s e h = ap (echoed b) e ∙ echo-law m q b ∙ passed-8 m (answering b q) wrong h
+-- a write whose body passes: l is what comes back of it
+pub written-law : (m : Module) (q : Request Module) (l b : List ℕ) (wrong : Bool) (s : Served)
+    → l ≡ b → s ≡ servedOf (judged m q) → wrong ≡ false → echoed l s ≡ servedOf (judged m (refuse8 wrong (answering b q)))
+written-law m q l b wrong s f e h = ap (λ (x : List ℕ). echoed x s) f ∙ ap (echoed b) e ∙ echo-law m q b ∙ passed-8 m (answering b q) wrong h
 
 -- four bytes, one after another
-pub four-pushed : (b : List ℕ) → 4 ≤ length b → pushed (pushed (pushed (pushed (dataOf []) (getD b 0 0)) (getD b 1 0)) (getD b 2 0)) (getD b 3 0) ≡ dataOf (take 4 b)
-four-pushed b h =
-    rw (piece 3 0 b 0 (omega arith), piece 2 1 b 0 (omega arith), piece 1 2 b 0 (omega arith), piece 0 3 b 0 (omega arith))
-    (rw (
-      push-law [] (getD b 0 0) (omega arith),
-      push-law (getD b 0 0 ∷ []) (getD b 1 0) (omega arith),
-      push-law (getD b 0 0 ∷ getD b 1 0 ∷ []) (getD b 2 0) (omega arith),
-      push-law (getD b 0 0 ∷ getD b 1 0 ∷ getD b 2 0 ∷ []) (getD b 3 0) (omega arith),
-    ))
+pub four-pushed : (a b c d : ℕ) → pushed (pushed (pushed (pushed (dataOf []) a) b) c) d ≡ dataOf (a ∷ b ∷ c ∷ d ∷ [])
+four-pushed a b c d =
+    rw (push-law [] a (omega arith), push-law (a ∷ []) b (omega arith), push-law (a ∷ b ∷ []) c (omega arith), push-law (a ∷ b ∷ c ∷ []) d (omega arith))
+
+-- a body that has them
+pub head-law : (b : List ℕ) → 4 ≤ length b → headOf b ≡ take 4 b
+head-law b h = rw (piece 3 0 b 0 (omega arith), piece 2 1 b 0 (omega arith), piece 1 2 b 0 (omega arith), piece 0 3 b 0 (omega arith))
 
 one-of : (b : Bool) (x y : List ℕ) → cond b (dataOf x) (dataOf y) ≡ dataOf (cond b x y)
 one-of true x y = refl

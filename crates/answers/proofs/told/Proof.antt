@@ -1,0 +1,10 @@
+-- `answers::told` meets its contract. Assumes nothing.
+use mathlib.Core.Path.{refl}
+use Rattle.answers.proofs.told.Statement.{statement}
+use Rattle.answers.proofs.told.Tie as tie
+
+returns : tie.Need-returns
+returns c = refl
+
+pub told-spec : {M : Type 1} → statement M
+told-spec = tie.close (tie.spec returns)

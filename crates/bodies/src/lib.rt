@@ -1,0 +1,105 @@
+// What every Modbus function shares: the checks of a body, the echo of a write, the permission, and the reply or exception.
+ghost use mathlib.Core.Path.{_≡_};
+ghost use Rattle.model.specs.Modbus.{quantityWrong, countWrong, modbusUsed};
+ghost use Rattle.answers.specs.Parts.{plain};
+ghost use Rattle.bodies.specs.Parts.{headOf, echoed, answeredTo};
+use answers::Handled;
+use answers::Served;
+use model::Module;
+
+// 8: the body is not what its function names.
+pub fn wrong_body(m: Module) -> Served
+    ensures { λ r. ⌜ r ≡ plain 8 m ⌝ }
+{
+    answers::bare(8, m)
+}
+
+// 9: in no group open to the function.
+pub fn no_group(m: Module) -> Served
+    ensures { λ r. ⌜ r ≡ plain 9 m ⌝ }
+{
+    answers::bare(9, m)
+}
+
+// 8: other than a start and a quantity of 1 to `most`.
+pub fn quantity_wrong(most: u16, b: &[u8]) -> bool
+    ensures { λ r. ⌜ r ≡ quantityWrong most (now (b .entry)) ⌝ }
+{
+    if b.len() != 4 {
+        return true;
+    }
+    let n = octets::word_from(b, 2);
+    (n < 1) | (most < n)
+}
+
+// 8: other than a start, a quantity of 1 to `most`, the byte count `size` and so many bytes.
+pub fn count_wrong(most: u16, size: usize, b: &[u8]) -> bool
+    ensures { λ r. ⌜ r ≡ countWrong most size (now (b .entry)) ⌝ }
+{
+    let n = octets::word_from(b, 2);
+    if (n < 1) | (most < n) {
+        return true;
+    }
+    let count = octets::at(b, 4) as usize;
+    if count != size {
+        return true;
+    }
+    b.len() != 5 + count
+}
+
+// The answer to a write: where it is accepted, the first four bytes of its body come back.
+pub fn echo(s: Served, b: &[u8]) -> Served
+    ensures { λ r. ⌜ r ≡ echoed (headOf (now (b .entry))) s ⌝ }
+{
+    if s.refusal != 0 {
+        return s;
+    }
+    let first = octets::push(octets::empty(), octets::at(b, 0));
+    let second = octets::push(first, octets::at(b, 1));
+    let third = octets::push(second, octets::at(b, 2));
+    let four = octets::push(third, octets::at(b, 3));
+    let after = s.after;
+    Served {
+        refusal: 0,
+        after,
+        body: four,
+    }
+}
+
+// A request that passes 1 to 6 uses the port's permission up.
+pub fn use_up(m: Module) -> Module
+    ensures { λ r. ⌜ r ≡ modbusUsed m ⌝ }
+{
+    let modbus = settings::permitted(m.modbus, false);
+    let mut next = m;
+    next.modbus = modbus;
+    next
+}
+
+// The reply, or the exception: none to a broadcast.
+pub fn answer(own: u8, to: u8, function: u8, s: Served) -> Handled
+    ensures { λ r. ⌜ r ≡ answeredTo own to function s ⌝ }
+{
+    let refusal = s.refusal;
+    let after = s.after;
+    if to == 0 {
+        return Handled {
+            refusal,
+            after,
+            reply: octets::empty(),
+        };
+    }
+    if refusal != 0 {
+        return Handled {
+            refusal,
+            after,
+            reply: frames::exception_reply(own, function, frames::exception_of(refusal)),
+        };
+    }
+    let body = s.body;
+    Handled {
+        refusal,
+        after,
+        reply: frames::modbus_reply(own, function, body),
+    }
+}
