@@ -38,10 +38,10 @@ module _ {P : Type 0} (put : P → Module) (p : P) (q : Request P) where
 pub told-law : {P : Type 0} (m : Module) (p : P) (q : Request P) → toldAbout m (toldOf (judged p q)) ≡ servedOf (judged m (onPart (λ _. m) q))
 told-law m p q = sym (ap servedOf (judged-part (λ _. m) p q))
 
--- no reply, or one
-pub both : (b : Bool) (l : List ℕ) → cond b (dataOf []) (dataOf l) ≡ dataOf (cond b [] l)
-both true l = refl
-both false l = refl
+-- one of two replies
+pub both : (b : Bool) (x y : List ℕ) → cond b (dataOf x) (dataOf y) ≡ dataOf (cond b x y)
+both true x y = refl
+both false x y = refl
 
 -- a frame that fails a check
 pub refused-law : (n : ℕ) (m : Module) (o : Out) → (n ≡ 0 → ⊥) → silent n m ≡ ifPasses n m o

@@ -17,6 +17,7 @@ use Rattle.model.specs.Modbus.{answering, modbusAnswered}
 use Rattle.frames.proofs.Framing.{modbus-law}
 use Rattle.answers.specs.declared.Served.{Served}
 use Rattle.answers.specs.Parts.{servedOf, handledOf}
+use Rattle.answers.proofs.Laws.{both}
 use Rattle.bodies.specs.Parts.{headOf, echoed, answeredTo}
 use Rattle.bodies.proofs.Laws.{passed-8}
 
@@ -53,10 +54,6 @@ four-pushed a b c d =
 pub head-law : (b : List ℕ) → 4 ≤ length b → headOf b ≡ take 4 b
 head-law b h = rw (piece 3 0 b 0 (omega arith), piece 2 1 b 0 (omega arith), piece 1 2 b 0 (omega arith), piece 0 3 b 0 (omega arith))
 
-one-of : (b : Bool) (x y : List ℕ) → cond b (dataOf x) (dataOf y) ≡ dataOf (cond b x y)
-one-of true x y = refl
-one-of false x y = refl
-
 -- the reply around the data
 pub answered-law : (own to function : ℕ) (s : Served) (o : Done Module) → s ≡ servedOf o → length (o .reply) ≤ 252
     → answeredTo own to function s ≡ handledOf (modbusAnswered own to function o)
@@ -68,5 +65,5 @@ answered-law own to function s o e h =
     ap (answeredTo own to function) e
     ∙ ap (λ (x : Data). record { refusal = o .refusal; after = o .part; reply = x })
     (ap (λ (x : Data). cond quiet (dataOf []) (cond good x (dataOf error))) (modbus-law own function (o .reply) h)
-    ∙ ap (cond quiet (dataOf [])) (one-of good (modbusReply own function (o .reply)) error)
-    ∙ one-of quiet [] _)
+    ∙ ap (cond quiet (dataOf [])) (both good (modbusReply own function (o .reply)) error)
+    ∙ both quiet [] _)

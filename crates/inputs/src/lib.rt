@@ -1,10 +1,9 @@
 // The inputs: one sample of a line, the pass over the sixteen, counting by mode, edges.
 ghost use mathlib.Core.Path.{_≡_};
-ghost use mathlib.Core.List.{map};
 ghost use Prim.Native.Nat.{_<_};
 ghost use Rattle.lists.specs.Tests.{any};
-ghost use Rattle.lists.specs.Numbers.{bitAt, bitsNumber};
-ghost use Rattle.model.specs.Samples.{lineSampled, linesSampled, isEdge, edges, selectedEdge, counted, countersSampled, inputsSampled};
+ghost use Rattle.lists.specs.Numbers.{bitAt};
+ghost use Rattle.model.specs.Samples.{lineSampled, linesSampled, isEdge, edges, selectedEdge, counted, countersSampled};
 ghost use Rattle.inputs.specs.Passes.{anyEdge, anyMasked, sampledOf, stableBits};
 use model::Inputs;
 use model::Line;

@@ -6,7 +6,7 @@ use native.Mathlib.Numerals.{add-one}
 use mathlib.Core.Path.{_≡_, refl, ap, _∙_}
 use mathlib.Core.List.{List, [], _∷_, map}
 use lib.ListN.{length, take, drop, getD, length-drop}
-use lib.Seq.{drop-drop, drop-cons}
+use lib.Seq.{take-all, drop-drop, drop-cons}
 use Rattle.lists.specs.Chunks.{chunks, chunksOf}
 use Rattle.lists.specs.Entries.{entries, entryOf}
 
@@ -39,6 +39,10 @@ length-chunksOf w (suc n) l = ap suc (length-chunksOf w n (drop w l))
 -- what is left of a list, by its first
 pub rest-first : (l : List ℕ) (i : ℕ) → i < length l → drop i l ≡ getD l i 0 ∷ drop (i + 1) l
 rest-first l i h = rw (drop-cons l i 0 h, add-one)
+
+-- all after the first k
+pub rest-whole : (k : ℕ) (l : List ℕ) → take (length l - k) (drop k l) ≡ drop k l
+rest-whole k l = take-all (length l - k) (drop k l) (simp length-drop (omega arith))
 
 -- a chunk, byte by byte
 pub piece : {A : Type 0} (k i : ℕ) (l : List A) (d : A) → i < length l → take (suc k) (drop i l) ≡ getD l i d ∷ take k (drop (i + 1) l)

@@ -1,11 +1,10 @@
 -- Runs of generated samples.
 use Prim.Native.Nat.{ℕ, zero, suc, _+_, _*_, _/_, _%_, _^_}
 use mathlib.Core.Bool.{Bool, true, cond}
-use mathlib.Core.List.{List, [], _∷_, _++_}
+use mathlib.Core.List.{_++_}
 use lib.Bits.{bitXor}
 use lib.Dec.{eqb}
 use lib.ListN.{length, replicate}
-use Rattle.model.specs.declared.Module.{Module}
 use Rattle.model.specs.State.{freshModule, output, notice, withInputs, withOutputs, withNotice}
 use Rattle.model.specs.Calls.{sampleCall}
 use Rattle.load.specs.declared.Source.{Source}

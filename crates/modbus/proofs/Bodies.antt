@@ -1,22 +1,17 @@
 -- The bodies of writes: what stands after the head, and how long it is. Assumes nothing.
-use Prim.Native.Nat.{ℕ, _+_, _-_, _≤_}
+use Prim.Native.Nat.{ℕ, _+_, _-_}
 use native.Mathlib.Omega.{arith}
-use mathlib.Core.Path.{_≡_, sym, ap, _∙_}
+use mathlib.Core.Path.{_≡_, ap, _∙_}
 use mathlib.Core.Bool.{false}
 use mathlib.Core.List.{List, [], _∷_, map}
 use lib.Dec.{eqb}
-use lib.ListN.{length, getD, take, drop, length-drop}
-use lib.Seq.{take-all}
+use lib.ListN.{length, getD, drop}
 use borrow.Author.Tests.{eqb-true, not-false}
 use Rattle.lists.specs.Tests.{within}
 use Rattle.lists.specs.Numbers.{number}
 use Rattle.lists.proofs.Choices.{and-right}
 use Rattle.lists.proofs.ChunkLaws.{chunks-cons, chunks-none, piece}
 use Rattle.model.specs.Modbus.{secondOf, countWrong, words}
-
--- all after the first k bytes
-pub rest-whole : (k : ℕ) (d : List ℕ) → take (length d - k) (drop k d) ≡ drop k d
-rest-whole k d = take-all (length d - k) (drop k d) (simp length-drop (omega arith))
 
 -- 06: one value
 pub one-word : (b : List ℕ) → length b ≡ 4 → words (drop 2 b) ≡ secondOf b ∷ []

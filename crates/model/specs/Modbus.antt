@@ -11,7 +11,7 @@ use Rattle.model.specs.declared.Module.{Module}
 use Rattle.model.specs.State.{withInputs, withOutputs, withThermostats, withModbus, withModes, withCounters, permit}
 use Rattle.model.specs.Samples.{inputStates}
 use Rattle.model.specs.Frames.{modbusTo, functionOf, modbusBody, modbusBroadcast, modbusReply, exceptionReply}
-use Rattle.model.specs.Refusals.{Request, accepting, notListed, refuse8, refuse9, refuse11, onPart, Done, judged, exceptionOf, Out, silent, ifPasses, modbusFrameRefusal}
+use Rattle.model.specs.Refusals.{Request, accepting, notListed, refuse8, refuse9, refuse11, onPart, Done, judged, exceptionOf, Out, ifPasses, modbusFrameRefusal}
 use Rattle.model.specs.Outputs.{outputStates}
 use Rattle.model.specs.Temperature.{readingWords}
 use Rattle.model.specs.Registers.{readWords, readBits, portWords, outputWord, readThermostat, writePermission, writePort, writeCounters, writeDeductions, writeModes, writePulse, writeThermostat, writeCoils}

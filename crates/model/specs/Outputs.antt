@@ -1,8 +1,8 @@
 -- 01, Outputs and notice: the outputs.
 use Prim.Native.Nat.{ℕ, _+_, _-_, _/_, _%_}
-use mathlib.Core.Bool.{Bool, true, false, cond, not, _&&_, _||_}
+use mathlib.Core.Bool.{Bool, cond, not, _&&_, _||_}
 use mathlib.Core.List.{List, [], _∷_, map, foldl}
-use lib.ListN.{length, getD, set, drop}
+use lib.ListN.{getD, set, drop}
 use lib.Dec.{ltb, eqb}
 use Rattle.lists.specs.Tests.{within, all}
 use Rattle.lists.specs.Numbers.{bytes, bitsNumber}

@@ -1,9 +1,9 @@
 -- 01, Why a call is refused, in checking order: each condition by its name.
 use Prim.Native.Nat.{ℕ, zero, suc, _-_, _/_, _%_}
 use mathlib.Core.Bool.{Bool, true, false, cond, not, _&&_, _||_}
-use mathlib.Core.List.{List, [], _∷_}
+use mathlib.Core.List.{List, []}
 use lib.ListN.{length, getD, take}
-use lib.Dec.{ltb, leb, eqb}
+use lib.Dec.{ltb, eqb}
 use Rattle.lists.specs.Tests.{within}
 use Rattle.model.specs.declared.Module.{Module}
 use Rattle.model.specs.Frames.{sumOf, numOf, spinelTo, instructionOf, universal, spinelBroadcast, crcOf, modbusTo, functionOf, modbusBroadcast}

@@ -1,8 +1,8 @@
 -- 01, Registers: groups of registers, coils and inputs, for the functions that read and write them.
 use Prim.Native.Nat.{ℕ, _+_, _-_, _*_, _/_, _%_}
-use mathlib.Core.Bool.{Bool, true, false, cond, not, _&&_, _||_}
-use mathlib.Core.List.{List, [], _∷_, _++_, map, foldl, flatMap}
-use lib.ListN.{length, getD, set, take, drop, replicate}
+use mathlib.Core.Bool.{Bool, true, cond, not, _&&_, _||_}
+use mathlib.Core.List.{List, [], _∷_, map, foldl, flatMap}
+use lib.ListN.{length, getD, set, take, drop}
 use lib.Dec.{leb, ltb, eqb}
 use Rattle.lists.specs.Tests.{within, all}
 use Rattle.lists.specs.Numbers.{bytes, bitsNumber}

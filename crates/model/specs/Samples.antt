@@ -1,11 +1,11 @@
 -- 01, Samples and edges.
 use Prim.Native.Nat.{ℕ, _+_, _%_}
-use mathlib.Core.Bool.{Bool, true, false, cond, not, _&&_, Bool·beq}
+use mathlib.Core.Bool.{Bool, cond, not, _&&_, Bool·beq}
 use mathlib.Core.List.{List, map}
 use lib.Dec.{eqb, leb}
 use lib.ListN.{getD}
 use Rattle.lists.specs.Mapi.{mapi}
-use Rattle.lists.specs.Numbers.{bitAt, bitsNumber}
+use Rattle.lists.specs.Numbers.{bitAt}
 use Rattle.model.specs.declared.Line.{Line}
 use Rattle.model.specs.declared.Inputs.{Inputs}
 use Rattle.model.specs.State.{line, freshLine}

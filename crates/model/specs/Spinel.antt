@@ -1,13 +1,13 @@
 -- A Spinel frame, whatever the buffer: its instruction, then the port's permission and the reply.
 use Prim.Native.Nat.{ℕ}
-use mathlib.Core.Bool.{Bool, true, false, cond}
+use mathlib.Core.Bool.{Bool, false, cond}
 use mathlib.Core.List.{List, []}
 use lib.Dec.{eqb}
 use Rattle.model.specs.declared.Module.{Module}
 use Rattle.model.specs.State.{withInputs, withOutputs, withPresets, withThermostats, withNotice, withSpinel, withModes, withCounters, permit}
 use Rattle.model.specs.Samples.{inputStates}
 use Rattle.model.specs.Frames.{spinelTo, signatureOf, instructionOf, spinelData, universal, spinelBroadcast, spinelReply}
-use Rattle.model.specs.Refusals.{Request, notListed, onPart, Done, judged, ackOf, Out, silent, ifPasses, spinelFrameRefusal}
+use Rattle.model.specs.Refusals.{Request, notListed, onPart, Done, judged, ackOf, Out, ifPasses, spinelFrameRefusal}
 use Rattle.model.specs.Counters.{listRead, readCounters, deductCounters, setModesList, modeShown, setSampling, readSampling, givePermission, setPort, readPort, resetModule}
 use Rattle.model.specs.Outputs.{setOutputs, setPulses, setPresets, startPresets, pulseShown, presetShown, modeByte, outputStates, readStates}
 use Rattle.model.specs.Notice.{setNotice, readNotice}

@@ -1,6 +1,6 @@
 -- The state: its fresh value, and each part put in place of the old.
 use Prim.Native.Nat.{ℕ}
-use mathlib.Core.Bool.{Bool, true, false}
+use mathlib.Core.Bool.{Bool, false}
 use mathlib.Core.List.{List}
 use lib.ListN.{replicate}
 use lib.IntN.{ℤ, pos}
@@ -12,7 +12,7 @@ use Rattle.model.specs.declared.Seconds.{Seconds}
 use Rattle.model.specs.declared.Preset.{Preset}
 use Rattle.model.specs.declared.Thermostat.{Thermostat}
 use Rattle.model.specs.declared.Reading.{Reading}
-use Rattle.model.specs.declared.Reading.the-variants.{Valid, Fault}
+use Rattle.model.specs.declared.Reading.the-variants.{Fault}
 use Rattle.model.specs.declared.Notice.{Notice}
 use Rattle.model.specs.declared.Port.{Port}
 use Rattle.model.specs.declared.Module.{Module}

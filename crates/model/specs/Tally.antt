@@ -1,11 +1,11 @@
 -- 01, Tally of cycles. From the module's state it takes nothing, and it shares no definition with the module but the type of a call:
 -- its debounce, edge selection, frame positions, lists and register ranges are its own. Inputs go by their numbers, 1 to 16.
 use Prim.Native.Nat.{ℕ, zero, suc, _+_, _-_, _*_, _/_, _%_, _^_}
-use mathlib.Core.Bool.{Bool, true, false, cond, _&&_, _||_}
+use mathlib.Core.Bool.{Bool, false, cond, _&&_, _||_}
 use mathlib.Core.List.{List, [], _∷_}
 use lib.ListN.{length, getD, take, drop}
 use lib.Dec.{ltb, leb, eqb}
-use Rattle.model.specs.Call.{Act, Call, sample, temperature, spinel, modbus}
+use Rattle.model.specs.Call.{Act, sample, temperature, spinel, modbus}
 
 -- what is held for one input; "edges and collected, the last two without upper limit"
 pub record Account : Type 0 where

@@ -1,7 +1,7 @@
 -- 01, Temperature.
 use Prim.Native.Nat.{ℕ, _-_, _/_, _%_}
 use mathlib.Core.Bool.{Bool, true, false, cond, not, _&&_, _||_}
-use mathlib.Core.List.{List, [], _∷_, _++_, map, foldl, flatMap}
+use mathlib.Core.List.{List, [], _∷_, _++_, foldl, flatMap}
 use lib.ListN.{length, getD, set}
 use lib.Dec.{ltb, leb, eqb}
 use lib.IntN.{ℤ, pos, negsuc}

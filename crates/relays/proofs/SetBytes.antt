@@ -5,8 +5,7 @@ use mathlib.Core.Path.{_≡_, refl, ap}
 use mathlib.Core.Bool.{Bool, true, false, cond, _&&_}
 use mathlib.Core.List.{List, [], _∷_}
 use lib.Dec.{eqb, leb}
-use lib.ListN.{length, take, drop, length-drop}
-use lib.Seq.{take-all}
+use lib.ListN.{length, drop}
 use borrow.Author.Tests.{leb-true, leb-false, le-leb}
 use Rattle.lists.specs.Tests.{within}
 use Rattle.lists.specs.Entries.{entry}
@@ -41,7 +40,3 @@ pub no-set-bytes : (d : List ℕ) → length d < 1 → itemsOf 1 (drop 1 d) ≡ 
 unfolding itemsOf within
 no-set-bytes [] h = refl
 no-set-bytes (b ∷ d) h = absurd (omega arith)
-
--- all after the time
-pub rest-whole : (d : List ℕ) → take (length d - 1) (drop 1 d) ≡ drop 1 d
-rest-whole d = take-all (length d - 1) (drop 1 d) (simp length-drop (omega arith))

@@ -32,4 +32,4 @@ answered-law own to signature s o e h =
     let quiet = eqb to spinelBroadcast in
     let ack = ackOf (o .refusal) in
     ap (answeredTo own to signature) e
-    ∙ ap (λ (x : Data). record { refusal = o .refusal; after = o .part; reply = x }) (ap (λ (x : Data). cond quiet (dataOf []) x) (spinel-law own signature ack (o .reply) h) ∙ both quiet (spinelReply own signature ack (o .reply)))
+    ∙ ap (λ (x : Data). record { refusal = o .refusal; after = o .part; reply = x }) (ap (λ (x : Data). cond quiet (dataOf []) x) (spinel-law own signature ack (o .reply) h) ∙ both quiet [] (spinelReply own signature ack (o .reply)))

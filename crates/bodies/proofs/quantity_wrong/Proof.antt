@@ -1,7 +1,7 @@
 -- `bodies::quantity_wrong` meets its contract. Assumes nothing.
 use borrow.Author.Needs.{needs}
 use borrow.Author.Tests.{ne-eqb}
-use borrow.Author.Tests.{ne-eqb, eq-eqb}
+use borrow.Author.Tests.{eq-eqb}
 use Rattle.model.specs.Modbus.{quantityWrong}
 use Rattle.bodies.proofs.quantity_wrong.Statement.{statement}
 use Rattle.bodies.proofs.quantity_wrong.Tie as tie

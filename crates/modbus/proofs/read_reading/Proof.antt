@@ -2,15 +2,12 @@
 use borrow.Author.Needs.{needs}
 use mathlib.Core.Path.{refl, sym, _∙_}
 use denote.Ref.{now}
-use mathlib.Core.Path.{refl, sym, _∙_}
 use Rattle.model.specs.Registers.{readWords}
 use Rattle.model.specs.Modbus.{startOf, secondOf, quantityWrong}
 use Rattle.answers.proofs.Laws.{told-law}
 use Rattle.model.specs.Temperature.{readingWords}
-use Rattle.model.specs.Modbus.{startOf, secondOf, quantityWrong}
 use Rattle.modbus.proofs.read_reading.Statement.{statement}
 use Rattle.modbus.proofs.read_reading.Tie as tie
-use Rattle.bodies.proofs.Laws.{refused-8, passed-8}
 use Rattle.bodies.proofs.Laws.{refused-8, passed-8}
 
 quantity-wrong-requires : tie.Need-quantity-wrong-requires

@@ -2,13 +2,11 @@
 use borrow.Author.Needs.{needs}
 use mathlib.Core.Path.{sym, _∙_}
 use denote.Ref.{now}
-use mathlib.Core.Path.{sym, _∙_}
 use Rattle.model.specs.Modbus.{startOf, secondOf, quantityWrong, registersRead}
 use Rattle.modbus.proofs.read_registers.Statement.{statement}
 use Rattle.modbus.proofs.read_registers.Tie as tie
 use Rattle.bodies.proofs.Laws.{refused-8, passed-8}
 use Rattle.modbus.proofs.Ranges.{groups-listed}
-use Rattle.bodies.proofs.Laws.{refused-8, passed-8}
 
 quantity-wrong-requires : tie.Need-quantity-wrong-requires
 quantity-wrong-requires c κs = search needs

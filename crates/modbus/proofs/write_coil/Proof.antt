@@ -7,7 +7,7 @@ use mathlib.Core.Bool.{not, _||_}
 use mathlib.Core.List.{[], _∷_}
 use Prim.Native.Nat.{_/_}
 use lib.Dec.{eqb}
-use lib.ListN.{length, take}
+use lib.ListN.{length}
 use lib.Seq.{take-all}
 use native.Mathlib.Nat.{le-of-eq}
 use borrow.Author.Tests.{eq-eqb, ne-eqb}

@@ -16,7 +16,8 @@ use Rattle.modbus.proofs.write_coils.Tie as tie
 use Rattle.bodies.proofs.Laws.{refused-8}
 use Rattle.bodies.specs.Parts.{headOf}
 use Rattle.bodies.proofs.Echoes.{head-law, written-law}
-use Rattle.modbus.proofs.Bodies.{rest-whole, counted}
+use Rattle.lists.proofs.ChunkLaws.{rest-whole}
+use Rattle.modbus.proofs.Bodies.{counted}
 
 -- a body that passes has its head
 long : (c : tie.Else1) → 5 ≤ length (now (c .before .before .before .before .args .b))

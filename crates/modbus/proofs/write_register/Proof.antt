@@ -6,7 +6,7 @@ use mathlib.Core.Path.{ap, _∙_}
 use mathlib.Core.Bool.{true, not}
 use mathlib.Core.List.{[], _∷_}
 use lib.Dec.{eqb}
-use lib.ListN.{length, take}
+use lib.ListN.{length}
 use lib.Seq.{take-all}
 use native.Mathlib.Nat.{le-of-eq}
 use borrow.Author.Tests.{eq-eqb, ne-eqb}
@@ -16,7 +16,8 @@ use Rattle.modbus.proofs.write_register.Tie as tie
 use Rattle.bodies.proofs.Laws.{refused-8}
 use Rattle.bodies.specs.Parts.{headOf}
 use Rattle.bodies.proofs.Echoes.{head-law, written-law}
-use Rattle.modbus.proofs.Bodies.{rest-whole, one-word}
+use Rattle.lists.proofs.ChunkLaws.{rest-whole}
+use Rattle.modbus.proofs.Bodies.{one-word}
 use Rattle.modbus.proofs.Ranges.{writes-listed}
 
 wrong-body-requires : tie.Need-wrong-body-requires

@@ -12,7 +12,8 @@ use Rattle.modbus.proofs.write_registers.Tie as tie
 use Rattle.bodies.proofs.Laws.{refused-8}
 use Rattle.bodies.specs.Parts.{headOf}
 use Rattle.bodies.proofs.Echoes.{head-law, written-law}
-use Rattle.modbus.proofs.Bodies.{rest-whole, counted}
+use Rattle.lists.proofs.ChunkLaws.{rest-whole}
+use Rattle.modbus.proofs.Bodies.{counted}
 use Rattle.modbus.proofs.Ranges.{writes-listed}
 
 -- a body that passes has its head

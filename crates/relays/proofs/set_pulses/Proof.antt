@@ -2,7 +2,8 @@
 use borrow.Author.Needs.{needs}
 use Rattle.model.specs.Refusals.{judged}
 use Rattle.model.specs.Outputs.{setPulses, pulseOutputs, actOn}
-use Rattle.relays.proofs.SetBytes.{no-set-bytes, rest-whole}
+use Rattle.lists.proofs.ChunkLaws.{rest-whole}
+use Rattle.relays.proofs.SetBytes.{no-set-bytes}
 use Rattle.relays.proofs.set_pulses.Statement.{statement}
 use Rattle.relays.proofs.set_pulses.Tie as tie
 
@@ -30,7 +31,7 @@ pulse-listed-requires c κs = search needs
 
 returns-2 : tie.Need-returns-2
 unfolding setPulses
-returns-2 c = rw (c .pulse-listed .ensures, rest-whole (c .before .before .before .before .before .args .d .now))
+returns-2 c = rw (c .pulse-listed .ensures, rest-whole 1 (c .before .before .before .before .before .args .d .now))
 
 pub set-pulses-spec : {M : Type 1} → statement M
 set-pulses-spec =
