@@ -1,6 +1,6 @@
 -- A script as calls.
 use Prim.Native.Nat.{ℕ}
-use mathlib.Core.Bool.{Bool, true, false, cond, not}
+use mathlib.Core.Bool.{Bool, true, false, cond}
 use mathlib.Core.List.{List, [], _∷_, _++_}
 use lib.Dec.{eqb}
 use lib.IntN.{pos}
@@ -10,11 +10,12 @@ use Rattle.model.specs.declared.Module.{Module}
 use Rattle.model.specs.Refusals.{Out}
 use Rattle.model.specs.Calls.{spinelCall, modbusCall}
 use Rattle.script.specs.declared.Line.{Line}
+use Rattle.script.specs.Words.{other}
 use Rattle.script.specs.Lines.{parsed}
 
 -- any byte but a line feed
 abbrev pub inLine : ℕ → Bool
-inLine b = not (eqb b 10)
+inLine b = other 10 b
 
 -- a frame on the port that it came to
 unfoldable pub frameCall : Bool → ℕ → List ℕ → Module → Out

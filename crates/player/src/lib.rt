@@ -26,14 +26,7 @@ struct Played {
 fn line_end(s: &[u8]) -> usize
     ensures { λ r. ⌜ r ≡ leading inLine (now (s .entry)) ⌝ }
 {
-    let mut i = 0;
-    while i < s.len() {
-        if s[i] == 10 {
-            return i;
-        }
-        i += 1;
-    }
-    i
+    script::stop_at(s, 10)
 }
 
 // The upper-case digit of a number below 16.

@@ -13,9 +13,13 @@ blank b = eqb b 32 || eqb b 9
 abbrev pub solid : ℕ → Bool
 solid b = not (blank b)
 
+-- any byte but one
+abbrev pub other : ℕ → ℕ → Bool
+other stop b = not (eqb b stop)
+
 -- any byte but `#`
 abbrev pub plain : ℕ → Bool
-plain b = not (eqb b 35)
+plain b = other 35 b
 
 -- how many elements at the start pass
 unfoldable pub leading : (ℕ → Bool) → List ℕ → ℕ

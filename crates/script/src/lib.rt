@@ -1,6 +1,6 @@
 // One line of a script as a call.
 ghost use mathlib.Core.Path.{_≡_};
-ghost use Rattle.script.specs.Words.{blank, solid, plain, leading, uncr, body, words, over, used, firstWord, restOf, same};
+ghost use Rattle.script.specs.Words.{blank, solid, other, plain, leading, uncr, body, words, over, used, firstWord, restOf, same};
 ghost use Rattle.script.specs.Numbers.{digit, digits, decimal, hex, positive, negative, signed};
 ghost use Rattle.script.specs.Lines.{lineOf, wrong, sampled, sample, tenthsLine, tenthsOf, temperature, faultWord, framed, keyword, called, parsed};
 
@@ -50,18 +50,25 @@ fn solids(s: &[u8]) -> usize
     i
 }
 
-// How many bytes stand before a comment.
-fn plains(s: &[u8]) -> usize
-    ensures { λ r. ⌜ r ≡ leading plain (now (s .entry)) ⌝ }
+// How many bytes stand before the first that is `stop`, or before the end.
+pub fn stop_at(s: &[u8], stop: u8) -> usize
+    ensures { λ r. ⌜ r ≡ leading (other stop) (now (s .entry)) ⌝ }
 {
     let mut i = 0;
     while i < s.len() {
-        if s[i] == 35 {
+        if s[i] == stop {
             return i;
         }
         i += 1;
     }
     i
+}
+
+// How many bytes stand before a comment.
+fn plains(s: &[u8]) -> usize
+    ensures { λ r. ⌜ r ≡ leading plain (now (s .entry)) ⌝ }
+{
+    stop_at(s, 35)
 }
 
 // The value of a digit, or 16.

@@ -1,4 +1,4 @@
--- `script::plains` meets its contract. The loop's invariant: those passed and those to come are all. Assumes nothing.
+-- `script::stop_at` meets its contract. The loop's invariant: those passed and those to come are all. Assumes nothing.
 use borrow.Author.Needs.{needs}
 use native.Mathlib.Omega.{arith}
 use Prim.Native.Nat.{_≤_, _-_, _+_}
@@ -6,16 +6,16 @@ use mathlib.Core.Path.{_≡_, ap, _∙_}
 use lib.ListN.{length, drop}
 use mathlib.Core.Bool.{not}
 use borrow.Author.Tests.{eq-eqb, ne-eqb}
-use Rattle.script.specs.Words.{plain, leading}
+use Rattle.script.specs.Words.{other, leading}
 use Rattle.script.proofs.Leading.{lead-goes, lead-stops, lead-ends}
-use Rattle.script.proofs.plains.Statement.{statement}
-use Rattle.script.proofs.plains.Tie as tie
+use Rattle.script.proofs.stop_at.Statement.{statement}
+use Rattle.script.proofs.stop_at.Tie as tie
 
 abbrev Inv-loop : tie.InvT-loop
-Inv-loop s i₀ i = (i ≤ length s) × (i + leading plain (drop i s) ≡ leading plain s)
+Inv-loop s stop i₀ i = (i ≤ length s) × (i + leading (other stop) (drop i s) ≡ leading (other stop) s)
 
 abbrev μ-loop : tie.MeasureT-loop
-μ-loop s i₀ i = length s - i
+μ-loop s stop i₀ i = length s - i
 
 loop-holds : tie.Need-loop-holds Inv-loop μ-loop
 loop-holds c = (omega arith, omega arith)
@@ -26,7 +26,7 @@ shared-slice-read-if1 c = search needs
 returns : tie.Need-returns Inv-loop μ-loop
 returns c =
     let at = c .before .before in
-    lead-stops plain _ _ (at .loop-test .taken) (ap not (eq-eqb _ _ (c .if1 .taken))) ∙ at .before .loop .inv .1
+    lead-stops (other (at .before .before .args .stop)) _ _ (at .loop-test .taken) (ap not (eq-eqb _ _ (c .if1 .taken))) ∙ at .before .loop .inv .1
 
 add-i : tie.Need-add-i Inv-loop μ-loop
 add-i c = search needs
@@ -37,13 +37,13 @@ loop-less c = search needs
 loop-again : tie.Need-loop-again Inv-loop μ-loop
 loop-again c =
     let at = c .before .before in
-    (omega arith, lead-goes plain _ _ (at .loop-test .taken) (ap not (ne-eqb _ _ (c .if1 .left))) ∙ at .before .loop .inv .1)
+    (omega arith, lead-goes (other (at .before .before .args .stop)) _ _ (at .loop-test .taken) (ap not (ne-eqb _ _ (c .if1 .left))) ∙ at .before .loop .inv .1)
 
 returns-2 : tie.Need-returns-2 Inv-loop μ-loop
-returns-2 c = lead-ends plain _ _ (c .loop-test .left) ∙ c .before .loop .inv .1
+returns-2 c = lead-ends (other (c .before .before .args .stop)) _ _ (c .loop-test .left) ∙ c .before .loop .inv .1
 
-pub plains-spec : {M : Type 1} → statement M
-plains-spec =
+pub stop-at-spec : {M : Type 1} → statement M
+stop-at-spec =
     tie.close
     (tie.spec
     Inv-loop
