@@ -1,11 +1,11 @@
 -- What setting coils in turn comes to. Assumes nothing.
 use Prim.Native.Nat.{ℕ, suc, _+_, _-_, _≤_, _<_}
 use native.Mathlib.Omega.{arith}
+use native.Mathlib.Nat.{sub-zero}
 use mathlib.Core.Path.{_≡_, refl, _∙_}
 use mathlib.Core.Bool.{Bool, true, false, cond, not, _&&_, _||_}
 use mathlib.Core.List.{List, [], _∷_, foldl}
 use lib.ListN.{length}
-use borrow.Author.Tests.{le-ltb}
 use Rattle.lists.specs.Tests.{all}
 use Rattle.lists.specs.Entries.{Entry, numbered}
 use Rattle.lists.specs.Walk.{walk}
@@ -17,8 +17,9 @@ use Rattle.model.specs.declared.Thermostat.{Thermostat}
 use Rattle.model.specs.Refusals.{refused, judged}
 use Rattle.model.specs.Temperature.{freeAt}
 use Rattle.model.specs.Outputs.{numberFits, setOutput, actOn}
-use Rattle.model.specs.Registers.{writeCoils}
+use Rattle.model.specs.Registers.{bitGroup, outside, writeCoils}
 use Rattle.model.specs.Modbus.{bitsFrom}
+use Rattle.groups.proofs.Inside.{inside}
 use Rattle.relays.specs.declared.Switched.{Switched}
 use Rattle.relays.specs.Parts.{switchedOf}
 use Rattle.coils.proofs.Bits.{bits-length}
@@ -45,11 +46,11 @@ numbers-fit (b ∷ bits) n l h = rw (is-within 1 16 n l (omega arith), numbers-f
 
 -- within the sixteen, the walk over all of them is the write
 whole : (r : Reading) (hs : List Thermostat) (a : ℕ) (bits : List ℕ) (os : List Output)
-    → a + length bits ≤ 16 → switching r hs os os (numbered (a + 1) bits) ≡ switchedOf (judged os (writeCoils r hs a bits os))
+    → outside bitGroup a (length bits) ≡ false → switching r hs os os (numbered (a + 1) bits) ≡ switchedOf (judged os (writeCoils r hs a bits os))
 unfolding writeCoils actOn judged
 whole r hs a bits os h =
     walk-splits (freeOn r hs) setOutput switched (notSwitched os) (numbered (a + 1) bits) os
-    ∙ rw (all-on (λ (e : Entry). freeAt r hs (e .number)) setOutput (numbered (a + 1) bits) os, le-ltb 16 _ h, numbers-fit bits (a + 1) (omega arith) (omega arith))
+    ∙ rw (sub-zero (a + 1), all-on (λ (e : Entry). freeAt r hs (e .number)) setOutput (numbered (a + 1) bits) os, h, numbers-fit bits (a + 1) (omega arith) (omega (arith, inside bitGroup a (length bits) h .ends)))
     (go (all (λ (e : Entry). freeAt r hs (e .number)) (numbered (a + 1) bits)) (foldl setOutput os (numbered (a + 1) bits)))
   where
     go : (b : Bool) (after : List Output)
@@ -59,14 +60,8 @@ whole r hs a bits os h =
 
 -- the same, as the loop begins
 pub coils-walk : (r : Reading) (hs : List Thermostat) (a n : ℕ) (d : List ℕ) (os : List Output)
-    → a + n ≤ 16 → switching r hs os os (numbered (a + 0 + 1) (bitsFrom 0 (n - 0) d)) ≡ switchedOf (judged os (writeCoils r hs a (bitsFrom 0 n d) os))
+    → outside bitGroup a n ≡ false → switching r hs os os (numbered (a + 0 + 1) (bitsFrom 0 (n - 0) d)) ≡ switchedOf (judged os (writeCoils r hs a (bitsFrom 0 n d) os))
 coils-walk r hs a n d os h =
     let same : a + 0 ≡ a = omega arith in
     let every : n - 0 ≡ n = omega arith in
     rw (same, every) (whole r hs a (bitsFrom 0 n d) os (rw bits-length h))
-
--- of one entry the number, the time and the state
-pub three-fit : (a b c : Bool) → ((not (cond a true false) || not b) || not c) ≡ not ((a && b) && c)
-three-fit true true c = refl
-three-fit true false c = refl
-three-fit false b c = refl

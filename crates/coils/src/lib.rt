@@ -8,7 +8,6 @@ ghost use lib.ListN.{getD};
 ghost use Rattle.lists.specs.Tests.{within};
 ghost use Rattle.lists.specs.Numbers.{bitAt};
 ghost use Rattle.model.specs.Refusals.{judged, refuse11};
-ghost use Rattle.model.specs.Counters.{isNumber};
 ghost use Rattle.model.specs.Registers.{writePulse, writeCoils};
 ghost use Rattle.model.specs.Modbus.{words, bitsFrom};
 ghost use Rattle.relays.specs.Parts.{switchedOf};
@@ -18,27 +17,27 @@ use model::Reading;
 use model::Thermostat;
 use relays::Switched;
 
-// Whether an output's number, a state (FF or 00) and a time are each in range.
-fn pulse_fits(n: u16, state: u8, time: u8) -> bool
-    ensures { λ r. ⌜ r ≡ ((isNumber n && within 1 255 time) && (eqb state 0xFF || eqb state 0x00)) ⌝ }
+// Whether a state (FF or 00) and a time are each in range.
+fn pulse_fits(state: u8, time: u8) -> bool
+    ensures { λ r. ⌜ r ≡ (within 1 255 time && (eqb state 0xFF || eqb state 0x00)) ⌝ }
 {
-    ((1 <= n) & (n <= 16) & (1 <= time)) & ((state == 0xFF) | (state == 0x00))
+    (1 <= time) & ((state == 0xFF) | (state == 0x00))
 }
 
-// 500 to 515: one register, FF or 00, then the time.
+// 500 to 515: a single register, whose high byte is the state and low byte the time.
 pub fn write_pulse(r: Reading, hs: [Thermostat; 16], a: u16, d: &[u8], os: [Output; 16]) -> Switched
     ensures { λ q. ⌜ q ≡ switchedOf (judged os (writePulse r hs a (words (now (d .entry))) os)) ⌝ }
 {
-    if d.len() / 2 != 1 {
+    let count = d.len() / 2;
+    if groups::is_outside(groups::OUTPUTS, a, count) | (count != 1) {
         return relays::answer(9, os);
     }
     let v = octets::word_from(d, 0);
     let time = octets::low_byte(v);
-    let number = octets::less(a, 499);
-    if !pulse_fits(number, octets::high_byte(v), time) {
+    if !pulse_fits(octets::high_byte(v), time) {
         return relays::answer(11, os);
     }
-    let n = number as u8;
+    let n = groups::number(groups::OUTPUTS, a) as u8;
     if !relays::free_at(r, hs, n) {
         return relays::answer(12, os);
     }
@@ -64,7 +63,7 @@ pub fn write_coils(
 ) -> Switched
     ensures { λ q. ⌜ q ≡ switchedOf (judged os (writeCoils r hs a (bitsFrom 0 n (now (d .entry))) os)) ⌝ }
 {
-    if 16 < (a as u32) + (n as u32) {
+    if groups::is_outside(groups::BITS, a, n as usize) {
         return relays::answer(9, os);
     }
     let mut copy = os;
@@ -81,11 +80,11 @@ pub fn write_coils(
     relays::answer(0, copy)
 }
 
-// 05: one coil, FF00 or 0000.
+// 05: one coil, on by FF00, off by 0000.
 pub fn write_coil(r: Reading, hs: [Thermostat; 16], a: u16, v: u16, os: [Output; 16]) -> Switched
     ensures { λ q. ⌜ q ≡ switchedOf (judged os (refuse11 (not (eqb v 0xFF00 || eqb v 0x0000)) (writeCoils r hs a (v / 0xFF00 ∷ []) os))) ⌝ }
 {
-    if 15 < a {
+    if groups::is_outside(groups::BITS, a, 1) {
         return relays::answer(9, os);
     }
     if (v != 0xFF00) & (v != 0x0000) {

@@ -1,11 +1,9 @@
 -- Register groups by their ranges. Assumes nothing.
-use Prim.Native.Nat.{ℕ, _-_, _≤_}
+use Prim.Native.Nat.{ℕ, _≤_}
 use native.Mathlib.Omega.{arith}
-use mathlib.Core.Path.{_≡_, refl, sym}
+use mathlib.Core.Path.{_≡_, refl}
 use mathlib.Core.Bool.{Bool, false}
 use mathlib.Core.List.{List, map}
-use lib.Dec.{eqb}
-use borrow.Author.Tests.{eq-eqb, ne-eqb}
 use Rattle.lists.specs.Tests.{within}
 use Rattle.lists.proofs.Choices.{cond-case, is-within, not-within}
 use Rattle.model.specs.declared.Module.{Module}
@@ -13,10 +11,9 @@ use Rattle.model.specs.State.{withInputs, withOutputs, withThermostats, withMod
 use Rattle.model.specs.Refusals.{Request, onPart}
 use Rattle.model.specs.Counters.{deduct, setModes}
 use Rattle.model.specs.Outputs.{actOn, pulseOutputs}
-use Rattle.model.specs.Registers.{readWords, portWords, outputWord, readThermostat}
+use Rattle.model.specs.Registers.{portGroup, counterGroup, modeGroup, outputGroup, readWords, portWords, outputWord, readThermostat}
 use Rattle.model.specs.Registers.{writePermission, writePort, writeCounters, writeDeductions, writeModes, writePulse, writeThermostat}
 use Rattle.model.specs.Modbus.{noGroup, registersRead, registersWritten}
-use Rattle.registers.proofs.Groups.{words-from}
 
 -- a register that 03 does not read
 pub record Unread (a : ℕ) : Type 0 where
@@ -27,23 +24,22 @@ pub record Unread (a : ℕ) : Type 0 where
   pub thermostats : 600 ≤ a → a ≤ 663 → ⊥
 
 module _ (a n : ℕ) (m : Module) where
-  pub read-at-1 : 1 ≤ a → a ≤ 2 → readWords 0 (portWords (m .modbus)) (a - 1) n m ≡ registersRead a n m
+  pub read-at-1 : 1 ≤ a → a ≤ 2 → readWords portGroup (portWords (m .modbus)) a n m ≡ registersRead a n m
   unfolding registersRead
-  read-at-1 p q = rw (is-within 1 2 a p q) (sym (words-from 1 _ a n m p))
+  read-at-1 p q = rw (is-within 1 2 a p q)
 
-  pub read-at-100 : 100 ≤ a → a ≤ 115 → readWords 0 (m .inputs .counters) (a - 100) n m ≡ registersRead a n m
+  pub read-at-100 : 100 ≤ a → a ≤ 115 → readWords counterGroup (m .inputs .counters) a n m ≡ registersRead a n m
   unfolding registersRead
-  read-at-100 p q = rw (not-within 1 2 a (λ x y. omega arith), is-within 100 115 a p q) (sym (words-from 100 _ a n m p))
+  read-at-100 p q = rw (not-within 1 2 a (λ x y. omega arith), is-within 100 115 a p q)
 
-  pub read-at-300 : 300 ≤ a → a ≤ 315 → readWords 0 (m .inputs .modes) (a - 300) n m ≡ registersRead a n m
+  pub read-at-300 : 300 ≤ a → a ≤ 315 → readWords modeGroup (m .inputs .modes) a n m ≡ registersRead a n m
   unfolding registersRead
-  read-at-300 p q = rw (not-within 1 2 a (λ x y. omega arith), not-within 100 115 a (λ x y. omega arith), is-within 300 315 a p q) (sym (words-from 300 _ a n m p))
+  read-at-300 p q = rw (not-within 1 2 a (λ x y. omega arith), not-within 100 115 a (λ x y. omega arith), is-within 300 315 a p q)
 
-  pub read-at-500 : 500 ≤ a → a ≤ 515 → readWords 0 (map outputWord (m .outputs)) (a - 500) n m ≡ registersRead a n m
+  pub read-at-500 : 500 ≤ a → a ≤ 515 → readWords outputGroup (map outputWord (m .outputs)) a n m ≡ registersRead a n m
   unfolding registersRead
   read-at-500 p q =
       rw (not-within 1 2 a (λ x y. omega arith), not-within 100 115 a (λ x y. omega arith), not-within 300 315 a (λ x y. omega arith), is-within 500 515 a p q)
-      (sym (words-from 500 _ a n m p))
 
   pub read-at-600 : 600 ≤ a → a ≤ 663 → readThermostat (m .thermostats) a n m ≡ registersRead a n m
   unfolding registersRead
@@ -79,45 +75,45 @@ pub record Unwritten (a : ℕ) : Type 0 where
   pub thermostats : 600 ≤ a → a ≤ 663 → ⊥
 
 module _ (permitted single : Bool) (a : ℕ) (vs : List ℕ) (m : Module) where
-  pub write-at-0 : a ≡ 0 → onPart (withModbus m) (writePermission single vs (m .modbus)) ≡ registersWritten permitted single a vs m
+  pub write-at-0 : a ≡ 0 → onPart (withModbus m) (writePermission single a vs (m .modbus)) ≡ registersWritten permitted single a vs m
   unfolding registersWritten
-  write-at-0 e = rw (eq-eqb a 0 e)
+  write-at-0 e = rw (is-within 0 0 a (omega arith) (omega (arith, e)))
 
   pub write-at-1 : 1 ≤ a → a ≤ 2 → writePort permitted a vs m ≡ registersWritten permitted single a vs m
   unfolding registersWritten
   write-at-1 p q =
-      rw (ne-eqb a 0 (λ e. omega arith), is-within 1 2 a p q)
+      rw (not-within 0 0 a (λ x y. omega arith), is-within 1 2 a p q)
 
   pub write-at-100 : 100 ≤ a → a ≤ 115 → onPart (λ cs. withInputs m (withCounters (m .inputs) cs)) (writeCounters a vs (m .inputs .counters)) ≡ registersWritten permitted single a vs m
   unfolding registersWritten
   write-at-100 p q =
-      rw (ne-eqb a 0 (λ e. omega arith), not-within 1 2 a (λ x y. omega arith), is-within 100 115 a p q)
+      rw (not-within 0 0 a (λ x y. omega arith), not-within 1 2 a (λ x y. omega arith), is-within 100 115 a p q)
 
   pub write-at-200 : 200 ≤ a → a ≤ 215 → onPart (λ cs. withInputs m (withCounters (m .inputs) cs)) (writeDeductions a vs (m .inputs .counters)) ≡ registersWritten permitted single a vs m
   unfolding registersWritten
   write-at-200 p q =
-      rw (ne-eqb a 0 (λ e. omega arith), not-within 1 2 a (λ x y. omega arith), not-within 100 115 a (λ x y. omega arith), is-within 200 215 a p q)
+      rw (not-within 0 0 a (λ x y. omega arith), not-within 1 2 a (λ x y. omega arith), not-within 100 115 a (λ x y. omega arith), is-within 200 215 a p q)
 
   pub write-at-300 : 300 ≤ a → a ≤ 315 → onPart (λ ms. withInputs m (withModes (m .inputs) ms)) (writeModes a vs (m .inputs .modes)) ≡ registersWritten permitted single a vs m
   unfolding registersWritten
   write-at-300 p q =
-      rw (ne-eqb a 0 (λ e. omega arith), not-within 1 2 a (λ x y. omega arith), not-within 100 115 a (λ x y. omega arith), not-within 200 215 a (λ x y. omega arith), is-within 300 315 a p q)
+      rw (not-within 0 0 a (λ x y. omega arith), not-within 1 2 a (λ x y. omega arith), not-within 100 115 a (λ x y. omega arith), not-within 200 215 a (λ x y. omega arith), is-within 300 315 a p q)
 
   pub write-at-500 : 500 ≤ a → a ≤ 515 → onPart (withOutputs m) (writePulse (m .reading) (m .thermostats) a vs (m .outputs)) ≡ registersWritten permitted single a vs m
   unfolding registersWritten
   write-at-500 p q =
-      rw (ne-eqb a 0 (λ e. omega arith), not-within 1 2 a (λ x y. omega arith), not-within 100 115 a (λ x y. omega arith), not-within 200 215 a (λ x y. omega arith), not-within 300 315 a (λ x y. omega arith), is-within 500 515 a p q)
+      rw (not-within 0 0 a (λ x y. omega arith), not-within 1 2 a (λ x y. omega arith), not-within 100 115 a (λ x y. omega arith), not-within 200 215 a (λ x y. omega arith), not-within 300 315 a (λ x y. omega arith), is-within 500 515 a p q)
 
   pub write-at-600 : 600 ≤ a → a ≤ 663 → onPart (withThermostats m) (writeThermostat a vs (m .thermostats)) ≡ registersWritten permitted single a vs m
   unfolding registersWritten
   write-at-600 p q =
-      rw (ne-eqb a 0 (λ e. omega arith), not-within 1 2 a (λ x y. omega arith), not-within 100 115 a (λ x y. omega arith), not-within 200 215 a (λ x y. omega arith), not-within 300 315 a (λ x y. omega arith), not-within 500 515 a (λ x y. omega arith), is-within 600 663 a p q)
+      rw (not-within 0 0 a (λ x y. omega arith), not-within 1 2 a (λ x y. omega arith), not-within 100 115 a (λ x y. omega arith), not-within 200 215 a (λ x y. omega arith), not-within 300 315 a (λ x y. omega arith), not-within 500 515 a (λ x y. omega arith), is-within 600 663 a p q)
 
   pub write-nowhere : Unwritten a → noGroup m ≡ registersWritten permitted single a vs m
   unfolding registersWritten
   write-nowhere u =
       rw (
-        ne-eqb a 0 (u .permission),
+        not-within 0 0 a (λ x y. u .permission (omega arith)),
         not-within 1 2 a (u .port),
         not-within 100 115 a (u .counters),
         not-within 200 215 a (u .deductions),
@@ -130,7 +126,7 @@ module _ (permitted single : Bool) (a : ℕ) (vs : List ℕ) (m : Module) where
   pub writes-listed : registersWritten permitted single a vs m .unlisted ≡ false
   unfolding registersWritten writePermission writePort writeCounters writeDeductions deduct writeModes setModes writePulse pulseOutputs actOn writeThermostat
   writes-listed =
-      cond-case L (eqb a 0) _ _ (λ _. refl) λ _.
+      cond-case L (within 0 0 a) _ _ (λ _. refl) λ _.
       cond-case L (within 1 2 a) _ _ (λ _. refl) λ _.
       cond-case L (within 100 115 a) _ _ (λ _. refl) λ _.
       cond-case L (within 200 215 a) _ _ (λ _. refl) λ _.

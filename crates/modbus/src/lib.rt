@@ -1,7 +1,7 @@
 // The Modbus port: each function and register group on the part of the state that it may change, the permission, and the reply. `handle` is pure.
 ghost use mathlib.Core.Path.{_≡_};
 ghost use mathlib.Core.List.{map};
-ghost use Prim.Native.Nat.{_-_, _≤_};
+ghost use Prim.Native.Nat.{_≤_};
 ghost use lib.ListN.{length};
 ghost use Rattle.model.specs.declared.Line.{Line as LineOf};
 ghost use Rattle.model.specs.Samples.{inputStates};
@@ -9,6 +9,7 @@ ghost use Rattle.model.specs.State.{withInputs, withOutputs, withThermostats, w
 ghost use Rattle.model.specs.Refusals.{judged, refuse8, onPart};
 ghost use Rattle.model.specs.Outputs.{outputStates};
 ghost use Rattle.model.specs.Temperature.{readingWords};
+ghost use Rattle.model.specs.Registers.{portGroup, counterGroup, modeGroup, outputGroup, readingGroup};
 ghost use Rattle.model.specs.Registers.{readWords, readBits, portWords, outputWord, readThermostat};
 ghost use Rattle.model.specs.Registers.{writePermission, writePort, writeCounters, writeDeductions, writeModes, writePulse, writeThermostat};
 ghost use Rattle.model.specs.Modbus.{startOf, secondOf, quantityWrong, words, registersRead, registersWritten};
@@ -67,23 +68,23 @@ fn read_inputs(m: Module, b: &[u8]) -> Served
 
 // 1 to 2
 fn read_port(m: Module, a: u16, n: u16) -> Served
-    ensures { λ r. ⌜ r ≡ servedOf (judged m (readWords 0 (portWords (m .modbus)) (a - 1) n m)) ⌝ }
+    ensures { λ r. ⌜ r ≡ servedOf (judged m (readWords portGroup (portWords (m .modbus)) a n m)) ⌝ }
 {
     answers::told(m, registers::read_port(m.modbus, a, n))
 }
 
 // 100 to 115
 fn read_counters(m: Module, a: u16, n: u16) -> Served
-    ensures { λ r. ⌜ r ≡ servedOf (judged m (readWords 0 (m .inputs .counters) (a - 100) n m)) ⌝ }
+    ensures { λ r. ⌜ r ≡ servedOf (judged m (readWords counterGroup (m .inputs .counters) a n m)) ⌝ }
 {
     let x = m.inputs;
     let cs = x.counters;
-    answers::told(m, registers::read_words(100, cs, a, n))
+    answers::told(m, registers::read_counters(cs, a, n))
 }
 
 // 300 to 315
 fn read_modes(m: Module, a: u16, n: u16) -> Served
-    ensures { λ r. ⌜ r ≡ servedOf (judged m (readWords 0 (m .inputs .modes) (a - 300) n m)) ⌝ }
+    ensures { λ r. ⌜ r ≡ servedOf (judged m (readWords modeGroup (m .inputs .modes) a n m)) ⌝ }
 {
     let x = m.inputs;
     let ms = x.modes;
@@ -92,7 +93,7 @@ fn read_modes(m: Module, a: u16, n: u16) -> Served
 
 // 500 to 515
 fn read_outputs(m: Module, a: u16, n: u16) -> Served
-    ensures { λ r. ⌜ r ≡ servedOf (judged m (readWords 0 (map outputWord (m .outputs)) (a - 500) n m)) ⌝ }
+    ensures { λ r. ⌜ r ≡ servedOf (judged m (readWords outputGroup (map outputWord (m .outputs)) a n m)) ⌝ }
 {
     let os = m.outputs;
     answers::told(m, registers::read_outputs(os, a, n))
@@ -106,7 +107,7 @@ fn read_thermostat(m: Module, a: u16, n: u16) -> Served
     answers::told(m, registers::read_thermostat(hs, a, n))
 }
 
-// The register groups open to 03, by the first register.
+// The register groups that 03 reads, by the first register.
 fn read_group(m: Module, a: u16, n: u16) -> Served
     ensures { λ r. ⌜ r ≡ servedOf (judged m (registersRead a n m)) ⌝ }
 {
@@ -134,7 +135,7 @@ fn read_registers(m: Module, b: &[u8]) -> Served
 
 // 04: the input registers.
 fn read_reading(m: Module, b: &[u8]) -> Served
-    ensures { λ r. ⌜ r ≡ servedOf (judged m (refuse8 (quantityWrong 125 (now (b .entry))) (readWords 0 (readingWords (m .reading)) (startOf (now (b .entry))) (secondOf (now (b .entry))) m))) ⌝ }
+    ensures { λ r. ⌜ r ≡ servedOf (judged m (refuse8 (quantityWrong 125 (now (b .entry))) (readWords readingGroup (readingWords (m .reading)) (startOf (now (b .entry))) (secondOf (now (b .entry))) m))) ⌝ }
 {
     if bodies::quantity_wrong(125, b) {
         return bodies::wrong_body(m);
@@ -148,10 +149,10 @@ fn read_reading(m: Module, b: &[u8]) -> Served
 // Writing --------------------------------------------------------------------------------
 
 // 0
-fn write_permission(m: Module, single: bool, d: &[u8]) -> Served
-    ensures { λ r. ⌜ r ≡ servedOf (judged m (onPart (withModbus m) (writePermission single (words (now (d .entry))) (m .modbus)))) ⌝ }
+fn write_permission(m: Module, single: bool, a: u16, d: &[u8]) -> Served
+    ensures { λ r. ⌜ r ≡ servedOf (judged m (onPart (withModbus m) (writePermission single a (words (now (d .entry))) (m .modbus)))) ⌝ }
 {
-    let s = writes::write_permission(single, d, m.modbus);
+    let s = writes::write_permission(single, a, d, m.modbus);
     let modbus = s.port;
     let mut next = m;
     next.modbus = modbus;
@@ -222,12 +223,12 @@ fn write_thermostat(m: Module, a: u16, d: &[u8]) -> Served
     answers::put_thermostats(m, s.refusal, thermostats)
 }
 
-// The register groups open to 06 (a single value) and 10H, by the first register; the values are lent, two bytes each.
+// The register groups that 06 (a single value) and 10H write, by the first register; the values are lent, two bytes each.
 fn write_group(m: Module, permitted: bool, single: bool, a: u16, d: &[u8]) -> Served
     ensures { λ r. ⌜ r ≡ servedOf (judged m (registersWritten permitted single a (words (now (d .entry))) m)) ⌝ }
 {
     match a {
-        0 => write_permission(m, single, d),
+        0 => write_permission(m, single, a, d),
         1..=2 => write_port(m, permitted, a, d),
         100..=115 => write_counters(m, a, d),
         200..=215 => write_deductions(m, a, d),
@@ -299,7 +300,7 @@ fn write_registers(m: Module, permitted: bool, b: &[u8]) -> Served
 
 // A frame --------------------------------------------------------------------------------
 
-// The function byte: each arm one small function.
+// The function byte picks the function above that answers.
 fn serve(m: Module, permitted: bool, function: u8, b: &[u8]) -> Served
     ensures { λ r. ⌜ r ≡ servedOf (judged m (modbusAsked permitted function (now (b .entry)) m)) ⌝ }
 {

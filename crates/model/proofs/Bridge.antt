@@ -56,7 +56,7 @@ module _ (n r mode e c : ℕ) where
       sampledAccount n b (account s r mode e c)
       ≡ account (lineSampled n (eqb b 1) (line s r) .stable) (lineSampled n (eqb b 1) (line s r) .run) mode (e + cond (selectedEdge mode (line s r) (lineSampled n (eqb b 1) (line s r))) 1 0) c
 
-  -- y: the run is then long enough
+  -- y: with this sample the run is long enough
   by-run : (b : ℕ) (s y : Bool) → b ≤ 1 → leb n (r + 1) ≡ y → ltb (r + 1) n ≡ not y → Agrees b s
   unfolding sampledAccount lineSampled selectedEdge
   by-run zero false y h p q = rw (add-zero e)
@@ -283,7 +283,7 @@ unfolding named numbered
 numbered-above i s [] h = refl
 numbered-above i s (v ∷ vs) h = rw (ne-eqb s (suc i) (λ q. omega arith)) (numbered-above i (suc s) vs (omega arith))
 
--- or it is, once, with the value in its place
+-- or it is, once, with the value at j
 numbered-in : (i s j : ℕ) (vs : List ℕ) → s + j ≡ suc i → j < length vs → Once i (numbered s vs) (getD vs j 0)
 unfolding numbered
 numbered-in i s j [] e h = absurd (omega arith)

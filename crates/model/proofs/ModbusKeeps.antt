@@ -6,18 +6,19 @@ use mathlib.Core.Path.{_≡_, refl, sym}
 use mathlib.Core.List.{List, [], _∷_}
 use mathlib.Core.Bool.{Bool, true, false, not, true≢false}
 use lib.ListN.{length, take, drop}
-use lib.Dec.{leb, eqb}
+use lib.Dec.{leb, ltb, eqb}
 use borrow.Author.Tests.{eqb-true, ltb-false, not-false, le-leb}
-use Rattle.lists.specs.Tests.{within, all}
+use Rattle.lists.specs.Tests.{all}
 use Rattle.lists.specs.Entries.{Entry, numbered}
 use Rattle.lists.proofs.Choices.{cond-case, cond-eq, or-left, or-right, within-low, within-high}
 use Rattle.model.specs.declared.Module.{Module}
+use Rattle.model.specs.declared.Group.{Group}
 use Rattle.model.specs.declared.Inputs.{Inputs}
 use Rattle.model.specs.State.{withInputs, withModbus, withCounters, withModes}
 use Rattle.model.specs.Frames.{functionOf, modbusBody}
 use Rattle.model.specs.Refusals.{Request, refuse8, onPart}
 use Rattle.model.specs.Counters.{deduct, setModes, reset}
-use Rattle.model.specs.Registers.{reachesPast, readWords, readBits, readThermostat, writePermission, writePort, writeCounters, writeDeductions, writeModes}
+use Rattle.model.specs.Registers.{permissionGroup, portGroup, counterGroup, deductionGroup, modeGroup, outputGroup, thermostatGroup, inGroup, outside, numberAt, readWords, readBits, readThermostat, writePermission, writePort, writeCounters, writeDeductions, writeModes}
 use Rattle.model.specs.Modbus.{startOf, secondOf, countWrong, words, registersRead, registersWritten, answering, coilWritten, registerWritten, coilsWritten, severalWritten, modbusAsked}
 use Rattle.model.specs.Tally.{Tally, Account, twoAt, quantity, writes, modbusTallied}
 use Rattle.model.proofs.Bridge.{Values, single, several, isWrite, writes-below, writes-above, writes-not, lookup, lookup-collect, lookup-mode, lookup-clear, quiet, at-counter, at-deduction, at-mode, at-settings}
@@ -25,15 +26,19 @@ use Rattle.model.proofs.Invariant.{Inv}
 use Rattle.model.proofs.Accepted.{Good}
 use Rattle.model.proofs.Effects as effects
 
+-- a register's number, as the difference from the register before its group
+number-at : (k r : ℕ) → r + 1 - (k + 1) ≡ r - k
+number-at k r = omega arith
+
 -- the numbers from s on, s at least 1, are at least 1
 numbers-from : (s : ℕ) (vs : List ℕ) → 1 ≤ s → all (λ (e : Entry). leb 1 (e .number)) (numbered s vs) ≡ true
 unfolding numbered all
 numbers-from s [] h = refl
 numbers-from s (a ∷ vs) h = rw (le-leb 1 s h) (numbers-from (suc s) vs (omega arith))
 
--- a write that does not reach past its group's end
-ends : (end : ℕ) (f vs : List ℕ) → Values f vs → reachesPast end (twoAt f 2) (length vs) ≡ false → twoAt f 2 + quantity f ≤ end
-ends end f vs o h = omega (arith, o .size, ltb-false end (twoAt f 2 + length vs) h)
+-- a write that is not outside its group does not reach past its end
+ends : (g : Group) (f vs : List ℕ) → Values f vs → outside g (twoAt f 2) (length vs) ≡ false → twoAt f 2 + quantity f ≤ g .first + g .count
+ends g f vs o h = omega (arith, o .size, ltb-false (g .first + g .count) (twoAt f 2 + length vs) (or-right (ltb (twoAt f 2) (g .first)) _ h))
 
 module _ (i : ℕ) (small : i < 16) (m : Module) (t : Tally) (v : Inv i (m .inputs) t) (f : List ℕ) where
   abbrev x : Inputs
@@ -58,11 +63,11 @@ module _ (i : ℕ) (small : i < 16) (m : Module) (t : Tally) (v : Inv i (m .inpu
   read-keeps : (r n : ℕ) → registersRead r n m .after .inputs ≡ x
   unfolding registersRead readWords readThermostat
   read-keeps r n =
-      cond-case P (within 1 2 r) _ _ (λ _. refl) λ _.
-      cond-case P (within 100 115 r) _ _ (λ _. refl) λ _.
-      cond-case P (within 300 315 r) _ _ (λ _. refl) λ _.
-      cond-case P (within 500 515 r) _ _ (λ _. refl) λ _.
-      cond-case P (within 600 663 r) _ _ (λ _. refl) λ _.
+      cond-case P (inGroup portGroup r) _ _ (λ _. refl) λ _.
+      cond-case P (inGroup counterGroup r) _ _ (λ _. refl) λ _.
+      cond-case P (inGroup modeGroup r) _ _ (λ _. refl) λ _.
+      cond-case P (inGroup outputGroup r) _ _ (λ _. refl) λ _.
+      cond-case P (inGroup thermostatGroup r) _ _ (λ _. refl) λ _.
       refl
     where
       P : Request Module → Type 0
@@ -73,21 +78,21 @@ module _ (i : ℕ) (small : i < 16) (m : Module) (t : Tally) (v : Inv i (m .inpu
     counters-good : 100 ≤ twoAt f 2 → Good i on (onPart (λ cs. withInputs m (withCounters x cs)) (writeCounters (twoAt f 2) vs (x .counters)))
     unfolding writeCounters
     counters-good l = record {
-      keeps = λ p. rw (at-counter i f u small l (ends 116 f vs o (p .range)), ← lookup-clear u (lookup i 99 f vs w o l))
-          (effects.zeroes-some i small x (t .sampling) u v _ (numbers-from (twoAt f 2 - 99) vs (omega arith)));
+      keeps = λ p. rw (at-counter i f u small l (ends counterGroup f vs o (p .range)), ← lookup-clear u (lookup i 99 f vs w o l), ← number-at 99 (twoAt f 2))
+          (effects.zeroes-some i small x (t .sampling) u v _ (numbers-from (numberAt counterGroup (twoAt f 2)) vs (omega arith)));
     }
 
     deductions-good : 200 ≤ twoAt f 2 → Good i on (onPart (λ cs. withInputs m (withCounters x cs)) (writeDeductions (twoAt f 2) vs (x .counters)))
     unfolding writeDeductions deduct
     deductions-good l = record {
-      keeps = λ p. rw (at-deduction i f u small l (ends 216 f vs o (or-left _ _ (p .range))), ← lookup-collect u (lookup i 199 f vs w o l))
+      keeps = λ p. rw (at-deduction i f u small l (ends deductionGroup f vs o (or-left _ _ (p .range))), ← lookup-collect u (lookup i 199 f vs w o l), ← number-at 199 (twoAt f 2))
           (effects.deducts i small x (t .sampling) u v _ (not-false _ (p .value)));
     }
 
     modes-good : 300 ≤ twoAt f 2 → Good i on (onPart (λ ms. withInputs m (withModes x ms)) (writeModes (twoAt f 2) vs (x .modes)))
     unfolding writeModes setModes
     modes-good l = record {
-      keeps = λ p. rw (at-mode i f u small l, ← lookup-mode u (lookup i 299 f vs w o l))
+      keeps = λ p. rw (at-mode i f u small l, ← lookup-mode u (lookup i 299 f vs w o l), ← number-at 299 (twoAt f 2))
           (effects.modes i small x (t .sampling) u v _ (not-false _ (p .value)));
     }
 
@@ -95,24 +100,24 @@ module _ (i : ℕ) (small : i < 16) (m : Module) (t : Tally) (v : Inv i (m .inpu
     unfolding writePort reset
     port-good a l h = record { keeps = λ p. rw (at-settings i f u small w (o .some) l h) (effects.resets i small x (t .sampling) u v) }
 
-    permission-good : (b : Bool) → (b ≡ true → quantity f ≡ 1) → twoAt f 2 ≡ 0 → Good i on (onPart (withModbus m) (writePermission b vs (m .modbus)))
+    permission-good : (b : Bool) → Good i on (onPart (withModbus m) (writePermission b (twoAt f 2) vs (m .modbus)))
     unfolding writePermission
-    permission-good b one e = record {
-      keeps = λ p. rw (quiet i f u small (λ k l h. writes-above f k (omega (arith, one (not-false b (p .range)))))) v;
+    permission-good b = record {
+      keeps = λ p. rw (quiet i f u small (λ k l h. writes-above f k (omega (arith, ends permissionGroup f vs o (or-left _ _ (p .range)))))) v;
     }
 
     -- every group
-    pub registers-good : (a b : Bool) → (b ≡ true → quantity f ≡ 1) → Good i on (registersWritten a b (twoAt f 2) vs m)
+    pub registers-good : (a b : Bool) → Good i on (registersWritten a b (twoAt f 2) vs m)
     unfolding registersWritten
-    registers-good a b one =
-        cond-eq P (twoAt f 2) 0 _ _ (permission-good b one)
-        (cond-case P (within 1 2 (twoAt f 2)) _ _ (λ e. port-good a (within-low 1 2 _ e) (within-high 1 2 _ e)) λ _.
-        cond-case P (within 100 115 (twoAt f 2)) _ _ (λ e. counters-good (within-low 100 115 _ e)) λ _.
-        cond-case P (within 200 215 (twoAt f 2)) _ _ (λ e. deductions-good (within-low 200 215 _ e)) λ _.
-        cond-case P (within 300 315 (twoAt f 2)) _ _ (λ e. modes-good (within-low 300 315 _ e)) λ _.
-        cond-case P (within 500 515 (twoAt f 2)) _ _ (λ e. silent _ refl (λ k l h. writes-below f k (omega (arith, within-low 500 515 _ e)))) λ _.
-        cond-case P (within 600 663 (twoAt f 2)) _ _ (λ e. silent _ refl (λ k l h. writes-below f k (omega (arith, within-low 600 663 _ e)))) λ _.
-        record { keeps = λ p. absurd (true≢false (p .range)) })
+    registers-good a b =
+        cond-case P (inGroup permissionGroup (twoAt f 2)) _ _ (λ _. permission-good b) λ _.
+        cond-case P (inGroup portGroup (twoAt f 2)) _ _ (λ e. port-good a (within-low 1 2 _ e) (within-high 1 2 _ e)) λ _.
+        cond-case P (inGroup counterGroup (twoAt f 2)) _ _ (λ e. counters-good (within-low 100 115 _ e)) λ _.
+        cond-case P (inGroup deductionGroup (twoAt f 2)) _ _ (λ e. deductions-good (within-low 200 215 _ e)) λ _.
+        cond-case P (inGroup modeGroup (twoAt f 2)) _ _ (λ e. modes-good (within-low 300 315 _ e)) λ _.
+        cond-case P (inGroup outputGroup (twoAt f 2)) _ _ (λ e. silent _ refl (λ k l h. writes-below f k (omega (arith, within-low 500 515 _ e)))) λ _.
+        cond-case P (inGroup thermostatGroup (twoAt f 2)) _ _ (λ e. silent _ refl (λ k l h. writes-below f k (omega (arith, within-low 600 663 _ e)))) λ _.
+        record { keeps = λ p. absurd (true≢false (p .range)) }
       where
         P : Request Module → Type 0
         P q = Good i on q
@@ -131,14 +136,14 @@ module _ (i : ℕ) (small : i < 16) (m : Module) (t : Tally) (v : Inv i (m .inpu
   single-good a e =
       framed (not (eqb (length body) 4)) body (registersWritten a true (startOf body) (secondOf body ∷ []) m) λ h.
       let o : Values f (secondOf body ∷ []) = single f e (eqb-true (length body) 4 (not-false _ h)) in
-      rw (o .start) (registers-good (secondOf body ∷ []) (rw e) o a true (λ _. rw e))
+      rw (o .start) (registers-good (secondOf body ∷ []) (rw e) o a true)
 
   several-good : (a : Bool) → functionOf f ≡ 0x10 → Good i on (severalWritten a body m)
   unfolding severalWritten
   several-good a e =
       framed (countWrong 123 (2 * secondOf body) body) (take 4 body) (registersWritten a false (startOf body) (words (drop 5 body)) m) λ h.
       let o : Values f (words (drop 5 body)) = several f e h in
-      rw (o .start) (registers-good (words (drop 5 body)) (rw e) o a false (λ q. absurd (true≢false (sym q))))
+      rw (o .start) (registers-good (words (drop 5 body)) (rw e) o a false)
 
   -- every function
   pub modbus-good : (a : Bool) → Good i on (modbusAsked a (functionOf f) body m)

@@ -8,12 +8,12 @@ use mathlib.Core.List.{List, [], _∷_, flatMap}
 use lib.Dec.{eqb}
 use lib.ListN.{length, getD, take, drop, length-append, length-map, length-take}
 use borrow.Author.Tests.{eqb-true, leb-true, not-false}
-use Rattle.lists.specs.Tests.{within}
 use Rattle.lists.specs.Numbers.{bytes}
 use Rattle.lists.proofs.Choices.{cond-case, cond-eq, and-right, or-right, within-high}
 use Rattle.lists.proofs.ChunkLaws.{length-chunksOf}
 use Rattle.lists.proofs.NumberLaws.{length-bytes}
 use Rattle.model.specs.declared.Module.{Module}
+use Rattle.model.specs.declared.Group.{Group}
 use Rattle.model.specs.declared.Reading.{Reading}
 use Rattle.model.specs.declared.Reading.the-variants.{Valid, Fault}
 use Rattle.model.specs.declared.Thermostat.{Thermostat}
@@ -25,10 +25,11 @@ use Rattle.model.specs.Refusals.{Request, refuse8, Done, judged, ackOf, 
 use Rattle.model.specs.Counters.{mostItems, itemsOf, everyNumber, listed, listRead, zeroes, numberIn, parameters, readOne, valuesRead, readCounters, clearAll, deduct, deductCounters, setSampling, readSampling, setModesList, setModes, modeShown, setPort, resetModule, givePermission, readPort}
 use Rattle.model.specs.Temperature.{setThermostats, readingShown, readTemperature, groupShown, readThermostats}
 use Rattle.model.specs.Outputs.{setOutputs, setPulses, pulseOutputs, actOn, startPresets, setPresets, statesShown, readStates, pulseShown, presetShown, modeByte}
-use Rattle.model.specs.Registers.{packed, readBits, readWords, readThermostat, thermostatWords, writeCoils}
+use Rattle.model.specs.Registers.{portGroup, counterGroup, modeGroup, outputGroup, thermostatGroup, readingGroup, inGroup, packed, readBits, readWords, readThermostat, thermostatWords, writeCoils}
 use Rattle.model.specs.Modbus.{startOf, secondOf, quantityWrong, registersRead, registersWritten, coilWritten, registerWritten, coilsWritten, severalWritten, modbusAsked, modbusAnswered}
 use Rattle.model.specs.Spinel.{SpinelRequest, spinelAsked, spinelAnswered}
 use Rattle.model.specs.Notice.{setNotice, readNotice, noticed, noticeFrame, noticeWritten}
+use Rattle.model.proofs.Answers.{judged-either}
 
 -- a request that is not refused by 8 has at most so much data
 pub record Short {P : Type 0} (most : ℕ) (q : Request P) : Type 0 where
@@ -36,20 +37,7 @@ pub record Short {P : Type 0} (most : ℕ) (q : Request P) : Type 0 where
 
 -- a refused request has no data
 pub judged-short : {P : Type 0} (most : ℕ) (p : P) (q : Request P) → Short most q → length (judged p q .reply) ≤ most
-unfolding judged
-judged-short {P} most p q s =
-    cond-case R (q .unlisted) _ _ (λ _. nothing) λ _.
-    cond-case R (q .lengthWrong) _ _ (λ _. nothing) λ e.
-    cond-case R (q .rangeWrong) _ _ (λ _. nothing) λ _.
-    cond-case R (q .notPermitted) _ _ (λ _. nothing) λ _.
-    cond-case R (q .valueWrong) _ _ (λ _. nothing) λ _.
-    cond-case R (q .held) _ _ (λ _. nothing) λ _. s .bound e
-  where
-    R : Done P → Type 0
-    R o = length (o .reply) ≤ most
-
-    nothing : 0 ≤ most
-    nothing = omega arith
+judged-short {P} most p q s = judged-either (λ (o : Done P). length (o .reply) ≤ most) p q (λ _. omega arith) (λ a. s .bound (a .length))
 
 -- Lists ----------------------------------------------------------------------------------
 
@@ -186,18 +174,18 @@ module _ (b : List ℕ) (m : Module) where
   unfolding readBits
   bits-short bs = record { bound = λ e. simp (length-packed, length-take) (omega (arith, quantity-most 2000 b e)) }
 
-  words-short : (first : ℕ) (ws : List ℕ) → Short 252 (refuse8 (quantityWrong 125 b) (readWords first ws (startOf b) (secondOf b) m))
+  words-short : (g : Group) (ws : List ℕ) → Short 252 (refuse8 (quantityWrong 125 b) (readWords g ws (startOf b) (secondOf b) m))
   unfolding readWords
-  words-short first ws = record { bound = λ e. omega (arith, words-most (secondOf b) (drop (startOf b - first) ws), quantity-most 125 b e) }
+  words-short g ws = record { bound = λ e. omega (arith, words-most (secondOf b) (drop (startOf b - g .first) ws), quantity-most 125 b e) }
 
   registers-short : Short 252 (refuse8 (quantityWrong 125 b) (registersRead (startOf b) (secondOf b) m))
   unfolding registersRead readThermostat thermostatWords flatMap bytes
   registers-short =
-      cond-case S (within 1 2 (startOf b)) _ _ (λ _. words-short 1 _) λ _.
-      cond-case S (within 100 115 (startOf b)) _ _ (λ _. words-short 100 _) λ _.
-      cond-case S (within 300 315 (startOf b)) _ _ (λ _. words-short 300 _) λ _.
-      cond-case S (within 500 515 (startOf b)) _ _ (λ _. words-short 500 _) λ _.
-      cond-case S (within 600 663 (startOf b)) _ _ (λ _. omega arith) λ _. omega arith
+      cond-case S (inGroup portGroup (startOf b)) _ _ (λ _. words-short portGroup _) λ _.
+      cond-case S (inGroup counterGroup (startOf b)) _ _ (λ _. words-short counterGroup _) λ _.
+      cond-case S (inGroup modeGroup (startOf b)) _ _ (λ _. words-short modeGroup _) λ _.
+      cond-case S (inGroup outputGroup (startOf b)) _ _ (λ _. words-short outputGroup _) λ _.
+      cond-case S (inGroup thermostatGroup (startOf b)) _ _ (λ _. omega arith) λ _. omega arith
     where
       S : Request Module → Type 0
       S q = Short 252 (refuse8 (quantityWrong 125 b) q)
@@ -212,7 +200,7 @@ module _ (b : List ℕ) (m : Module) where
       cond-eq (Short 252) fn 0x01 _ _ (λ _. bits-short _)
       (cond-eq (Short 252) fn 0x02 _ _ (λ _. bits-short _)
       (cond-eq (Short 252) fn 0x03 _ _ (λ _. registers-short)
-      (cond-eq (Short 252) fn 0x04 _ _ (λ _. words-short 0 _)
+      (cond-eq (Short 252) fn 0x04 _ _ (λ _. words-short readingGroup _)
       (cond-eq (Short 252) fn 0x05 _ _ (λ _. record { bound = echo-short false })
       (cond-eq (Short 252) fn 0x06 _ _ (λ _. record { bound = echo-short (registersWritten permitted true (startOf b) (secondOf b ∷ []) m .lengthWrong) })
       (cond-eq (Short 252) fn 0x0F _ _ (λ _. omega (arith, length-take 4 b))

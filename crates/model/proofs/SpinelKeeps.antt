@@ -58,7 +58,7 @@ module _ (i : ℕ) (small : i < 16) (m : Module) (t : Tally) (v : Inv i (m .inpu
   unfolding deductCounters clearAll deduct spinelSampling spinelResets spinelClears spinelMode spinelCollects changed
   deduct-good =
       cond-case (λ q. Good i (by 0x61) (onPart (λ cs. withInputs m (withCounters x cs)) q)) (eqb (length d) 1) _ _
-      (λ e. record { keeps = λ p. rw e (effects.clears-all i small x (t .sampling) u v) })
+      (λ e. record { keeps = λ p. rw (e, not-false (eqb (getD d 0 0) 0) (p .value)) (effects.clears-all i small x (t .sampling) u v) })
       (λ e. record { keeps = λ p. rw (e, amounts-agree i d) (effects.deducts i small x (t .sampling) u v (entries 3 d) (not-false _ (p .value))) })
 
   modes-good : Good i (by 0x6A) (onPart (λ ms. withInputs m (withModes x ms)) (setModesList d (x .modes)))

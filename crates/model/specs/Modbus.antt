@@ -14,7 +14,7 @@ use Rattle.model.specs.Frames.{modbusTo, functionOf, modbusBody, modbusB
 use Rattle.model.specs.Refusals.{Request, accepting, notListed, refuse8, refuse9, refuse11, onPart, Done, judged, exceptionOf, Out, ifPasses, modbusFrameRefusal}
 use Rattle.model.specs.Outputs.{outputStates}
 use Rattle.model.specs.Temperature.{readingWords}
-use Rattle.model.specs.Registers.{readWords, readBits, portWords, outputWord, readThermostat, writePermission, writePort, writeCounters, writeDeductions, writeModes, writePulse, writeThermostat, writeCoils}
+use Rattle.model.specs.Registers.{permissionGroup, portGroup, counterGroup, deductionGroup, modeGroup, outputGroup, thermostatGroup, readingGroup, inGroup, readWords, readBits, portWords, outputWord, readThermostat, writePermission, writePort, writeCounters, writeDeductions, writeModes, writePulse, writeThermostat, writeCoils}
 
 -- Bodies --------------------------------------------------------------------------------
 
@@ -44,31 +44,31 @@ bitsFrom j (suc n) d = getD d (j / 8) 0 / 2 ^ (j % 8) % 2 ∷ bitsFrom (suc j) n
 
 -- Groups of registers -----------------------------------------------------------------------
 
--- 9: in no group open to the function
+-- 9: no group there that the function serves
 abbrev pub noGroup : Module → Request Module
 noGroup m = refuse9 true (accepting m [])
 
 -- 03: n registers from r on
 unfoldable pub registersRead : ℕ → ℕ → Module → Request Module
 registersRead r n m =
-    cond (within 1 2 r) (readWords 1 (portWords (m .modbus)) r n m)
-    (cond (within 100 115 r) (readWords 100 (m .inputs .counters) r n m)
-    (cond (within 300 315 r) (readWords 300 (m .inputs .modes) r n m)
-    (cond (within 500 515 r) (readWords 500 (map outputWord (m .outputs)) r n m)
-    (cond (within 600 663 r) (readThermostat (m .thermostats) r n m)
+    cond (inGroup portGroup r) (readWords portGroup (portWords (m .modbus)) r n m)
+    (cond (inGroup counterGroup r) (readWords counterGroup (m .inputs .counters) r n m)
+    (cond (inGroup modeGroup r) (readWords modeGroup (m .inputs .modes) r n m)
+    (cond (inGroup outputGroup r) (readWords outputGroup (map outputWord (m .outputs)) r n m)
+    (cond (inGroup thermostatGroup r) (readThermostat (m .thermostats) r n m)
     (noGroup m)))))
 
 -- 06 (a single value) and 10H: the values vs for the registers from r on
 unfoldable pub registersWritten : Bool → Bool → ℕ → List ℕ → Module → Request Module
 registersWritten permitted single r vs m =
     let x = m .inputs in
-    cond (eqb r 0) (onPart (withModbus m) (writePermission single vs (m .modbus)))
-    (cond (within 1 2 r) (writePort permitted r vs m)
-    (cond (within 100 115 r) (onPart (λ cs. withInputs m (withCounters x cs)) (writeCounters r vs (x .counters)))
-    (cond (within 200 215 r) (onPart (λ cs. withInputs m (withCounters x cs)) (writeDeductions r vs (x .counters)))
-    (cond (within 300 315 r) (onPart (λ ms. withInputs m (withModes x ms)) (writeModes r vs (x .modes)))
-    (cond (within 500 515 r) (onPart (withOutputs m) (writePulse (m .reading) (m .thermostats) r vs (m .outputs)))
-    (cond (within 600 663 r) (onPart (withThermostats m) (writeThermostat r vs (m .thermostats)))
+    cond (inGroup permissionGroup r) (onPart (withModbus m) (writePermission single r vs (m .modbus)))
+    (cond (inGroup portGroup r) (writePort permitted r vs m)
+    (cond (inGroup counterGroup r) (onPart (λ cs. withInputs m (withCounters x cs)) (writeCounters r vs (x .counters)))
+    (cond (inGroup deductionGroup r) (onPart (λ cs. withInputs m (withCounters x cs)) (writeDeductions r vs (x .counters)))
+    (cond (inGroup modeGroup r) (onPart (λ ms. withInputs m (withModes x ms)) (writeModes r vs (x .modes)))
+    (cond (inGroup outputGroup r) (onPart (withOutputs m) (writePulse (m .reading) (m .thermostats) r vs (m .outputs)))
+    (cond (inGroup thermostatGroup r) (onPart (withThermostats m) (writeThermostat r vs (m .thermostats)))
     (noGroup m)))))))
 
 -- Functions ---------------------------------------------------------------------------------
@@ -77,7 +77,7 @@ registersWritten permitted single r vs m =
 abbrev pub answering : List ℕ → Request Module → Request Module
 answering b q = record { unlisted = q .unlisted; lengthWrong = q .lengthWrong; rangeWrong = q .rangeWrong; notPermitted = q .notPermitted; valueWrong = q .valueWrong; held = q .held; after = q .after; reply = b }
 
--- 05: one coil, "FF00 or 0000"
+-- 05: one coil, on by FF00, off by 0000; any other value is refused 11
 unfoldable pub coilWritten : List ℕ → Module → Request Module
 coilWritten b m =
     refuse8 (not (eqb (length b) 4))
@@ -88,7 +88,7 @@ unfoldable pub registerWritten : Bool → List ℕ → Module → Request Module
 registerWritten permitted b m =
     refuse8 (not (eqb (length b) 4)) (answering b (registersWritten permitted true (startOf b) (secondOf b ∷ []) m))
 
--- 0F: "its spare bits are ignored"
+-- 0F: a bit for each coil; what the last byte holds beyond them has no effect
 unfoldable pub coilsWritten : List ℕ → Module → Request Module
 coilsWritten b m =
     refuse8 (countWrong 1968 ((secondOf b + 7) / 8) b)
@@ -99,13 +99,13 @@ severalWritten permitted b m =
     refuse8 (countWrong 123 (2 * secondOf b) b)
     (answering (take 4 b) (registersWritten permitted false (startOf b) (words (drop 5 b)) m))
 
--- "06 and 10H write, 03 reads, 04 reads input registers; 01, 05, 0F serve coils 0 to 15, 02 inputs 0 to 15"
+-- 01, Registers: what each function reads or writes, and how many at most; the coils are the outputs, the input registers the reading
 unfoldable pub modbusAsked : Bool → ℕ → List ℕ → Module → Request Module
 modbusAsked permitted fn b m =
     cond (eqb fn 0x01) (refuse8 (quantityWrong 2000 b) (readBits (outputStates (m .outputs)) (startOf b) (secondOf b) m))
     (cond (eqb fn 0x02) (refuse8 (quantityWrong 2000 b) (readBits (inputStates (m .inputs)) (startOf b) (secondOf b) m))
     (cond (eqb fn 0x03) (refuse8 (quantityWrong 125 b) (registersRead (startOf b) (secondOf b) m))
-    (cond (eqb fn 0x04) (refuse8 (quantityWrong 125 b) (readWords 0 (readingWords (m .reading)) (startOf b) (secondOf b) m))
+    (cond (eqb fn 0x04) (refuse8 (quantityWrong 125 b) (readWords readingGroup (readingWords (m .reading)) (startOf b) (secondOf b) m))
     (cond (eqb fn 0x05) (coilWritten b m)
     (cond (eqb fn 0x06) (registerWritten permitted b m)
     (cond (eqb fn 0x0F) (coilsWritten b m)

@@ -8,6 +8,7 @@ use Rattle.lists.specs.Tests.{within, all}
 use Rattle.lists.specs.Numbers.{bytes, bitsNumber}
 use Rattle.lists.specs.Chunks.{chunksOf}
 use Rattle.lists.specs.Entries.{Entry, entry, numbered}
+use Rattle.model.specs.declared.Group.{Group}
 use Rattle.model.specs.declared.Output.{Output}
 use Rattle.model.specs.declared.Thermostat.{Thermostat}
 use Rattle.model.specs.declared.Reading.{Reading}
@@ -20,17 +21,62 @@ use Rattle.model.specs.Counters.{mostItems, reset, deduct, setModes}
 use Rattle.model.specs.Outputs.{setOutput, actOn, pulseOutputs, remaining}
 use Rattle.model.specs.Temperature.{signedOf, patternOf, thermostatFits}
 
--- n registers (or coils) from r on reach past the group's last place, end - 1
-abbrev pub reachesPast : ℕ → ℕ → ℕ → Bool
-reachesPast end r n = ltb end (r + n)
+-- Groups -------------------------------------------------------------------------------
+
+-- a group's first register, coil or input, and how many it has
+abbrev pub group : ℕ → ℕ → Group
+group first count = record { first = first; count = count }
+
+-- holding registers: the permission, address and speed, counters, deductions, modes, outputs, and four for each thermostat
+
+abbrev pub permissionGroup : Group
+permissionGroup = group 0 1
+
+abbrev pub portGroup : Group
+portGroup = group 1 2
+
+abbrev pub counterGroup : Group
+counterGroup = group 100 places
+
+abbrev pub deductionGroup : Group
+deductionGroup = group 200 places
+
+abbrev pub modeGroup : Group
+modeGroup = group 300 places
+
+abbrev pub outputGroup : Group
+outputGroup = group 500 places
+
+abbrev pub thermostatGroup : Group
+thermostatGroup = group 600 (4 * places)
+
+-- input registers of the reading; coils, and inputs read as bits
+
+abbrev pub readingGroup : Group
+readingGroup = group 0 4
+
+abbrev pub bitGroup : Group
+bitGroup = group 0 places
+
+-- does the group have register r
+abbrev pub inGroup : Group → ℕ → Bool
+inGroup g r = within (g .first) (g .first + g .count - 1) r
+
+-- 9: n registers from r on do not all lie in the group
+abbrev pub outside : Group → ℕ → ℕ → Bool
+outside g r n = ltb r (g .first) || ltb (g .first + g .count) (r + n)
+
+-- the number of the input or output that register r is for
+abbrev pub numberAt : Group → ℕ → ℕ
+numberAt g r = r + 1 - g .first
 
 -- Reading ------------------------------------------------------------------------------
 
--- n registers from r on, of a group that begins at `first` and holds these words: a byte count, then two bytes each
-unfoldable pub readWords : {P : Type 0} → ℕ → List ℕ → ℕ → ℕ → P → Request P
-readWords first words r n p =
-    refuse9 (reachesPast (first + length words) r n)
-    (accepting p (2 * n ∷ flatMap (bytes 2) (take n (drop (r - first) words))))
+-- n registers from r on, of a group that shows these words: a byte count, then two bytes each
+unfoldable pub readWords : {P : Type 0} → Group → List ℕ → ℕ → ℕ → P → Request P
+readWords g words r n p =
+    refuse9 (outside g r n)
+    (accepting p (2 * n ∷ flatMap (bytes 2) (take n (drop (r - g .first) words))))
 
 -- bits as bytes, eight to a byte, the lowest first, spare bits 0
 unfoldable pub packed : List Bool → List ℕ
@@ -39,56 +85,63 @@ packed bs = map bitsNumber (chunksOf 8 ((length bs + 7) / 8) bs)
 -- n of the sixteen coils or inputs from r on
 unfoldable pub readBits : {P : Type 0} → List Bool → ℕ → ℕ → P → Request P
 readBits bs r n p =
-    refuse9 (reachesPast places r n)
+    refuse9 (outside bitGroup r n)
     (accepting p ((n + 7) / 8 ∷ packed (take n (drop r bs))))
 
--- 1 to 2: address and speed
+-- 1 and 2: the port's address, its speed code
 abbrev pub portWords : Port → List ℕ
 portWords p = p .address ∷ p .speed ∷ []
 
--- 500 to 515: "a read gives state and remaining time", FF or 00 first
+-- 500 to 515: the high byte is FF for on, else 00; the low byte is what is left of the pulse
 unfoldable pub outputWord : Output → ℕ
 outputWord o = cond (o .on) 0xFF00 0 + remaining (o .left)
 
--- 600 + 4 × k: "flags (high byte 0), TEMPx, TEMPy, TIME and ERR"
+-- 600 + 4 × k: a word of flags, which fill its low byte, one for each limit, and one of TIME (high) with ERR (low)
 unfoldable pub thermostatWords : Thermostat → List ℕ
 thermostatWords h = h .flags ∷ patternOf (h .tempx) ∷ patternOf (h .tempy) ∷ (h .time .0 * 256 + h .err) ∷ []
 
--- "exactly four aligned registers"
+-- one thermostat whole: its four registers from its first one on
 abbrev pub fourAligned : ℕ → ℕ → Bool
-fourAligned r n = eqb n 4 && eqb ((r - 600) % 4) 0
+fourAligned r n = eqb n 4 && eqb ((r - thermostatGroup .first) % 4) 0
+
+-- 9: in the group, and so
+abbrev pub noThermostat : ℕ → ℕ → Bool
+noThermostat r n = outside thermostatGroup r n || not (fourAligned r n)
 
 -- the thermostat's place among the sixteen
 abbrev pub placeOf : ℕ → ℕ
-placeOf r = (r - 600) / 4
+placeOf r = (r - thermostatGroup .first) / 4
 
 unfoldable pub readThermostat : {P : Type 0} → List Thermostat → ℕ → ℕ → P → Request P
 readThermostat hs r n p =
-    refuse9 (not (fourAligned r n))
+    refuse9 (noThermostat r n)
     (accepting p (2 * n ∷ flatMap (bytes 2) (thermostatWords (getD hs (placeOf r) freshThermostat))))
 
 -- Writing: the values vs for the registers from r on ----------------------------------------
 
--- 0: "06 only, value 00FF, gives the permission"
-unfoldable pub writePermission : Bool → List ℕ → Port → Request Port
-writePermission single vs p = refuse9 (not single) (refuse11 (not (eqb (getD vs 0 0) 0x00FF)) (accepting (permit true p) []))
+-- 0: a single write of 00FF permits the port's next request; by 10H it is refused 9, with another value 11
+unfoldable pub writePermission : Bool → ℕ → List ℕ → Port → Request Port
+writePermission single r vs p =
+    refuse9 (outside permissionGroup r (length vs) || not single)
+    (refuse11 (not (eqb (getD vs 0 0) 0x00FF))
+    (accepting (permit true p) []))
 
--- "address 1 to 247, speed 3 to 10"
+-- register 1 takes the addresses that Modbus has for single modules, register 2 the speed codes from 3 to 10
 unfoldable pub portSettable : Entry → Bool
 portSettable e = cond (eqb (e .number) 1) (within 1 247 (e .value)) (within 3 10 (e .value))
 
 unfoldable pub setPortField : Port → Entry → Port
 setPortField p e = cond (eqb (e .number) 1) (port (e .value) (p .speed) (p .permitted)) (port (p .address) (e .value) (p .permitted))
 
--- 1 to 2: "a write needs the permission, replies with the old address, then resets"
+-- 1 and 2: with a permission only; a reset follows, and the reply still bears the address from before
 unfoldable pub writePort : Bool → ℕ → List ℕ → Module → Request Module
 writePort permitted r vs m =
-    refuse9 (reachesPast 3 r (length vs))
+    refuse9 (outside portGroup r (length vs))
     (refuse10 (not permitted)
     (refuse11 (not (all portSettable (numbered r vs)))
     (accepting (reset (withModbus m (foldl setPortField (m .modbus) (numbered r vs)))) [])))
 
--- 100 to 115: "only 0 may be written", which clears
+-- 100 to 115: a 0 clears the counter; nothing else can be put there
 unfoldable pub isZero : Entry → Bool
 isZero e = eqb (e .value) 0
 
@@ -97,24 +150,25 @@ clearOne cs e = set cs (e .number - 1) 0
 
 unfoldable pub writeCounters : ℕ → List ℕ → List ℕ → Request (List ℕ)
 writeCounters r vs cs =
-    refuse9 (reachesPast (100 + places) r (length vs))
-    (refuse11 (not (all isZero (numbered (r - 99) vs)))
-    (accepting (foldl clearOne cs (numbered (r - 99) vs)) []))
+    let es = numbered (numberAt counterGroup r) vs in
+    refuse9 (outside counterGroup r (length vs)) (refuse11 (not (all isZero es)) (accepting (foldl clearOne cs es) []))
 
--- 200 to 215: "deductions, write only, at most 12"
+-- 200 to 215: amounts to deduct, as by 61H and at most as many; a read finds no group there
 unfoldable pub writeDeductions : ℕ → List ℕ → List ℕ → Request (List ℕ)
-writeDeductions r vs cs = refuse9 (reachesPast (200 + places) r (length vs) || ltb mostItems (length vs)) (deduct (numbered (r - 199) vs) cs)
+writeDeductions r vs cs =
+    refuse9 (outside deductionGroup r (length vs) || ltb mostItems (length vs))
+    (deduct (numbered (numberAt deductionGroup r) vs) cs)
 
 -- 300 to 315: modes
 unfoldable pub writeModes : ℕ → List ℕ → List ℕ → Request (List ℕ)
-writeModes r vs ms = refuse9 (reachesPast (300 + places) r (length vs)) (setModes (numbered (r - 299) vs) ms)
+writeModes r vs ms = refuse9 (outside modeGroup r (length vs)) (setModes (numbered (numberAt modeGroup r) vs) ms)
 
--- 500 to 515: "FF or 00, then time; one per write"
+-- 500 to 515: a pulse on a single output; the high byte, FF or 00, tells its first state, the low byte its time
 unfoldable pub writePulse : Reading → List Thermostat → ℕ → List ℕ → List Output → Request (List Output)
 writePulse r hs a vs os =
     let v = getD vs 0 0 in
-    let es = entry (a - 499) (v / 0xFF00) ∷ [] in
-    refuse9 (not (eqb (length vs) 1))
+    let es = entry (numberAt outputGroup a) (v / 0xFF00) ∷ [] in
+    refuse9 (outside outputGroup a (length vs) || not (eqb (length vs) 1))
     (refuse11 (not (eqb (v / 256) 0xFF || eqb (v / 256) 0x00))
     (pulseOutputs (halfSeconds (v % 256)) r hs es os))
 
@@ -124,11 +178,11 @@ wordsThermostat vs = thermostat (getD vs 0 0) (signedOf (getD vs 1 0)) (signedOf
 
 unfoldable pub writeThermostat : ℕ → List ℕ → List Thermostat → Request (List Thermostat)
 writeThermostat r vs hs =
-    refuse9 (not (fourAligned r (length vs)))
+    refuse9 (noThermostat r (length vs))
     (refuse11 (not (leb (getD vs 0 0) 0xFF && thermostatFits (wordsThermostat vs)))
     (accepting (set hs (placeOf r) (wordsThermostat vs)) []))
 
--- coils: bit j of the bytes is for output r + 1 + j; 05 has one, "FF00 or 0000" ---------------------
+-- coils: bit j of the bytes is for output a + 1 + j; 05 has a single bit --------------------------------
 
 unfoldable pub writeCoils : Reading → List Thermostat → ℕ → List ℕ → List Output → Request (List Output)
-writeCoils r hs a bits os = refuse9 (reachesPast places a (length bits)) (actOn setOutput r hs (numbered (a + 1) bits) os)
+writeCoils r hs a bits os = refuse9 (outside bitGroup a (length bits)) (actOn setOutput r hs (numbered (numberAt bitGroup a) bits) os)

@@ -28,7 +28,7 @@ pub struct HalfSeconds(pub u8);
 // A time in seconds: a thermostat's TIME.
 pub struct Seconds(pub u8);
 
-// A preset pulse of an output: type 0 none, 2 on first, 3 off first.
+// A preset pulse of an output: its type (0: no pulse, 2: it begins with on, 3: with off) and its time.
 pub struct Preset {
     pub kind: u8,
     pub time: HalfSeconds,
@@ -43,20 +43,20 @@ pub struct Thermostat {
     pub err: u8,
 }
 
-// A reading of the thermometer: its tenths and its float, or a fault.
+// A reading of the thermometer: the temperature, as tenths and as a float, or a fault.
 pub enum Reading {
     Valid(i16, f32),
     Fault,
 }
 
-// The notice of inputs: format 61H on, 0 off; the mask; the signature of the enabling request.
+// The notice of inputs: its format (61H: on, 0: off), its mask, and the signature of the request that switched it on.
 pub struct Notice {
     pub format: u8,
     pub mask: u16,
     pub signature: u8,
 }
 
-// A port's address and speed code, and its configuration permission.
+// A port: its address, its speed code, and whether its next request may configure it.
 pub struct Port {
     pub address: u8,
     pub speed: u8,
@@ -74,6 +74,12 @@ pub struct Module {
     pub notice: Notice,
     pub spinel: Port,
     pub modbus: Port,
+}
+
+// A group of registers, coils or inputs: the first, and how many.
+pub struct Group {
+    pub first: u16,
+    pub count: u16,
 }
 
 // What a call answers: the refusal's number (0: accepted), the reply's length, the state after.

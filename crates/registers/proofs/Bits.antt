@@ -5,11 +5,9 @@ use native.Mathlib.Nat.{pow-suc, pow-succ', mod-lt, mod-le, mod-one, mod-eq-of-l
 use mathlib.Core.Path.{_≡_, refl, sym, ap, _∙_}
 use mathlib.Core.Bool.{Bool, true, false, cond}
 use mathlib.Core.List.{List, [], _∷_, map}
-use lib.Dec.{ltb}
 use lib.ListN.{length, take, drop, length-drop}
 use lib.Seq.{length-take-le}
 use lib.Pow.{pow-pos}
-use borrow.Author.Tests.{ltb-false}
 use Rattle.lists.specs.Data.{dataOf, pushed}
 use Rattle.lists.specs.declared.Data.{Data}
 use Rattle.lists.specs.Numbers.{bitsNumber}
@@ -17,8 +15,9 @@ use Rattle.lists.specs.Chunks.{chunksOf}
 use Rattle.lists.proofs.DataLaws.{push-law}
 use Rattle.lists.proofs.Bits.{bit-most}
 use Rattle.model.specs.Refusals.{judged, accepting, refuse9}
-use Rattle.model.specs.Registers.{packed, readBits}
+use Rattle.model.specs.Registers.{bitGroup, outside, packed, readBits}
 use Rattle.octets.specs.Answers.{toldOf}
+use Rattle.groups.proofs.Inside.{inside}
 use Rattle.registers.specs.Answers.{partOf, bitsShown, bitsTold}
 
 -- a part of a number is no larger
@@ -86,11 +85,11 @@ shown-packed bs k n long h =
 -- 01, 02 of any states, by their number
 pub bits-told : {P : Type 0} (p : P) (bs : List Bool) (bits k n : ℕ) → length bs ≡ 16 → bitsNumber bs ≡ bits → bitsTold bits k n ≡ toldOf (judged p (readBits bs k n p))
 unfolding bitsTold readBits judged
-bits-told {P} p bs bits k n long e = rw (← e) (go (ltb 16 (k + n)) refl)
+bits-told {P} p bs bits k n long e = rw (← e) (go (outside bitGroup k n) refl)
   where
     go : (t : Bool)
-        → ltb 16 (k + n) ≡ t
+        → outside bitGroup k n ≡ t
         → toldOf {P = Unit {0}} (judged tt (refuse9 t (accepting tt (bitsShown (partOf (bitsNumber bs) k n) n))))
         ≡ toldOf (judged p (refuse9 t (accepting p ((n + 7) / 8 ∷ packed (take n (drop k bs))))))
     go true h = refl
-    go false h = rw (shown-packed bs k n long (ltb-false 16 (k + n) h))
+    go false h = rw (shown-packed bs k n long (inside bitGroup k n h .ends))

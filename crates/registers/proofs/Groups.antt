@@ -1,19 +1,18 @@
 -- Words of a group: a part of a list, and where a group begins. Assumes nothing.
 use Prim.Native.Nat.{ℕ, zero, suc, _+_, _-_, _*_, _<_, _≤_}
 use native.Mathlib.Omega.{arith}
-use native.Mathlib.Nat.{le-of-eq, zero-add, sub-zero}
+use native.Mathlib.Nat.{le-of-eq}
 use mathlib.Core.Path.{_≡_, refl, sym, ap, _∙_}
 use mathlib.Core.Bool.{Bool, true, false}
 use mathlib.Core.List.{List, [], _∷_, _++_, map, flatMap}
-use lib.Dec.{ltb}
 use lib.ListN.{length, getD, take, drop, length-drop, List·getD-map}
 use lib.Seq.{getD-take, getD-drop, length-take-le}
-use borrow.Author.Tests.{ltb-true, ltb-false, lt-ltb, le-ltb}
 use Rattle.lists.specs.Data.{dataOf, extended, pushed}
 use Rattle.lists.specs.declared.Data.{Data}
 use Rattle.lists.specs.Numbers.{bytes}
 use Rattle.lists.proofs.DataLaws.{push-law, extend-law}
 use Rattle.lists.proofs.NumberLaws.{length-bytes}
+use Rattle.model.specs.declared.Group.{Group}
 use Rattle.model.specs.declared.Output.{Output}
 use Rattle.model.specs.declared.Reading.{Reading}
 use Rattle.model.specs.declared.Reading.the-variants.{Valid, Fault}
@@ -21,11 +20,11 @@ use Rattle.model.specs.State.{freshOutput}
 use Rattle.model.specs.Outputs.{remaining}
 use Rattle.model.specs.Refusals.{judged, accepting, refuse9}
 use Rattle.model.specs.Temperature.{readingWords}
-use Rattle.model.specs.Registers.{outputWord, readWords}
+use Rattle.model.specs.Registers.{outside, outputWord, readWords}
 use Rattle.model.proofs.Short.{flat-most}
 use Rattle.octets.specs.declared.Told.{Told}
 use Rattle.octets.specs.Answers.{toldOf}
-use Rattle.registers.specs.Answers.{wordsTold}
+use Rattle.groups.proofs.Inside.{inside}
 
 -- n of some words from place k on
 module _ (ws : List ℕ) (k n : ℕ) (fits : k + n ≤ length ws) where
@@ -55,38 +54,22 @@ part-first (x ∷ xs) ys zero zero h = refl
 part-first (x ∷ xs) ys zero (suc n) h = ap (x ∷_) (part-first xs ys zero n (omega arith))
 part-first (x ∷ xs) ys (suc k) n h = part-first xs ys k n (omega arith)
 
--- the places of a group that begins at 0
-words-here : {P : Type 0} (ws : List ℕ) (k n : ℕ) (p : P) → readWords 0 ws k n p ≡ refuse9 (ltb (length ws) (k + n)) (accepting p (2 * n ∷ flatMap (bytes 2) (take n (drop k ws))))
-unfolding readWords
-words-here ws k n p = rw (zero-add (length ws), sub-zero k)
-
--- the group is the first of two lists
-pub words-told : (ws xs ys : List ℕ) (count k n : ℕ) → ws ≡ xs ++ ys → count ≡ length xs → wordsTold ws count k n ≡ toldOf {P = Unit {0}} (judged tt (readWords 0 xs k n tt))
-unfolding wordsTold judged
-words-told ws xs ys count k n e q = rw (e, q, words-here xs k n (tt {0})) (go (ltb (length xs) (k + n)) refl)
+-- a group whose words are the first of two lists shows none of the second
+pub first-told : (g : Group) (xs ys : List ℕ) (a n : ℕ) → g .count ≤ length xs → toldOf {P = Unit {0}} (judged tt (readWords g (xs ++ ys) a n tt)) ≡ toldOf {P = Unit {0}} (judged tt (readWords g xs a n tt))
+unfolding readWords judged
+first-told g xs ys a n h = go (outside g a n) refl
   where
     answer : Bool → List ℕ → Told
     answer t part = toldOf {P = Unit {0}} (judged tt (refuse9 t (accepting tt (2 * n ∷ flatMap (bytes 2) part))))
 
-    go : (t : Bool) → ltb (length xs) (k + n) ≡ t → answer t (take n (drop k (xs ++ ys))) ≡ answer t (take n (drop k xs))
+    go : (t : Bool) → outside g a n ≡ t → answer t (take n (drop (a - g .first) (xs ++ ys))) ≡ answer t (take n (drop (a - g .first) xs))
     go true e = refl
-    go false e = ap (answer false) (part-first xs ys k n (ltb-false (length xs) (k + n) e))
+    go false e =
+        let i = inside g a n e in
+        ap (answer false) (part-first xs ys (a - g .first) n (omega (arith, i .begins, i .ends)))
 
 -- a reading has four words
-pub reading-four : (r : Reading) → 4 ≡ length (readingWords r)
+pub reading-four : (r : Reading) → length (readingWords r) ≡ 4
 unfolding readingWords
 reading-four (Valid t x) = refl
 reading-four Fault = refl
-
--- a test that only depends on the difference
-place-test : (first l a n : ℕ) → first ≤ a → ltb (first + l) (a + n) ≡ ltb l (a - first + n)
-place-test first l a n h = go (ltb l (a - first + n)) refl
-  where
-    go : (t : Bool) → ltb l (a - first + n) ≡ t → ltb (first + l) (a + n) ≡ t
-    go true e = lt-ltb (first + l) (a + n) (omega (arith, ltb-true l (a - first + n) e))
-    go false e = le-ltb (first + l) (a + n) (omega (arith, ltb-false l (a - first + n) e))
-
--- a register's place in a group that begins at `first`
-pub words-from : {P : Type 0} (first : ℕ) (ws : List ℕ) (a n : ℕ) (p : P) → first ≤ a → readWords first ws a n p ≡ readWords 0 ws (a - first) n p
-unfolding readWords
-words-from first ws a n p h = rw (place-test first (length ws) a n h) (sym (words-here ws (a - first) n p))

@@ -7,15 +7,9 @@ use Rattle.model.specs.declared.Thermostat.{Thermostat}
 use Rattle.model.specs.declared.Reading.{Reading}
 use Rattle.model.specs.Refusals.{judged, accepting, refuse9}
 use Rattle.model.specs.Temperature.{readingWords}
-use Rattle.model.specs.Registers.{reachesPast, thermostatWords}
+use Rattle.model.specs.Registers.{bitGroup, outside, thermostatWords}
 use Rattle.octets.specs.Answers.{toldOf}
 use Rattle.octets.specs.declared.Told.{Told}
-
--- n words from place k on, where only the first `count` are in the group
-unfoldable pub wordsTold : List ℕ → ℕ → ℕ → ℕ → Told
-wordsTold words count k n =
-    toldOf {P = Unit {0}} (judged tt (refuse9 (reachesPast count k n)
-    (accepting tt (2 * n ∷ flatMap (bytes 2) (take n (drop k words))))))
 
 -- a reading's words in an array of sixteen
 abbrev pub readingList : Reading → List ℕ
@@ -35,4 +29,4 @@ bitsShown v n = (n + 7) / 8 ∷ take ((n + 7) / 8) (v % 256 ∷ v / 256 % 256 �
 
 -- of states that are already a number: `readBits` of any sixteen states of that number
 unfoldable pub bitsTold : ℕ → ℕ → ℕ → Told
-bitsTold bits k n = toldOf {P = Unit {0}} (judged tt (refuse9 (reachesPast 16 k n) (accepting tt (bitsShown (partOf bits k n) n))))
+bitsTold bits k n = toldOf {P = Unit {0}} (judged tt (refuse9 (outside bitGroup k n) (accepting tt (bitsShown (partOf bits k n) n))))

@@ -7,10 +7,12 @@ ghost use Rattle.lists.specs.Data.{dataOf};
 ghost use Rattle.lists.specs.Numbers.{bytes};
 ghost use Rattle.model.specs.Refusals.{judged};
 ghost use Rattle.model.specs.Temperature.{readingWords};
+ghost use Rattle.model.specs.Registers.{counterGroup, modeGroup, outputGroup, portGroup, readingGroup};
 ghost use Rattle.model.specs.Registers.{readWords, portWords, outputWord, readThermostat};
 ghost use Rattle.octets.specs.Answers.{toldOf};
-ghost use Rattle.registers.specs.Answers.{wordsTold, readingList, thermostatList, partOf, bitsShown, bitsTold};
+ghost use Rattle.registers.specs.Answers.{readingList, thermostatList, partOf, bitsShown, bitsTold};
 use lists::Data;
+use model::Group;
 use model::Output;
 use model::Port;
 use model::Reading;
@@ -35,22 +37,22 @@ fn show_words(words: [u16; 16], k: usize, n: usize) -> Data
     reply
 }
 
-// n words from place k on, of a group that holds the first `count` of these.
-fn tell_words(words: [u16; 16], count: u16, k: u16, n: u16) -> Told
-    requires { ⌜ count ≤ 16 ⌝ }
-    ensures { λ r. ⌜ r ≡ wordsTold words count k n ⌝ }
+// n registers from `a` on, of a group that shows the first of these words.
+fn tell_words(g: Group, words: [u16; 16], a: u16, n: u16) -> Told
+    requires { ⌜ g .count ≤ 16 ⌝ }
+    ensures { λ r. ⌜ r ≡ toldOf {P = Unit {0}} (judged tt (readWords g words a n tt)) ⌝ }
 {
-    if (count as u32) < (k as u32) + (n as u32) {
+    if groups::is_outside(g, a, n as usize) {
         return octets::refuse(9);
     }
-    octets::tell(show_words(words, k as usize, n as usize))
+    octets::tell(show_words(words, groups::place(g, a), n as usize))
 }
 
-// n registers from `a` on, of sixteen words that begin at register `first`.
-pub fn read_words(first: u16, words: [u16; 16], a: u16, n: u16) -> Told
-    ensures { λ r. ⌜ r ≡ toldOf {P = Unit {0}} (judged tt (readWords 0 words (a - first) n tt)) ⌝ }
+// 100 to 115: counters.
+pub fn read_counters(cs: [u16; 16], a: u16, n: u16) -> Told
+    ensures { λ r. ⌜ r ≡ toldOf {P = Unit {0}} (judged tt (readWords counterGroup cs a n tt)) ⌝ }
 {
-    tell_words(words, 16, octets::less(a, first), n)
+    tell_words(groups::COUNTERS, cs, a, n)
 }
 
 // Sixteen bytes as words.
@@ -69,12 +71,12 @@ fn byte_words(bs: [u8; 16]) -> [u16; 16]
 
 // 300 to 315: modes, two bytes each.
 pub fn read_modes(ms: [u8; 16], a: u16, n: u16) -> Told
-    ensures { λ r. ⌜ r ≡ toldOf {P = Unit {0}} (judged tt (readWords 0 ms (a - 300) n tt)) ⌝ }
+    ensures { λ r. ⌜ r ≡ toldOf {P = Unit {0}} (judged tt (readWords modeGroup ms a n tt)) ⌝ }
 {
-    read_words(300, byte_words(ms), a, n)
+    tell_words(groups::MODES, byte_words(ms), a, n)
 }
 
-// An output's state and remaining time.
+// An output's word: FF or 00 for its state, then its remaining time.
 pub fn output_word(o: Output) -> u16
     ensures { λ r. ⌜ r ≡ outputWord o ⌝ }
 {
@@ -99,19 +101,19 @@ pub fn output_words(os: [Output; 16]) -> [u16; 16]
 
 // 500 to 515: outputs.
 pub fn read_outputs(os: [Output; 16], a: u16, n: u16) -> Told
-    ensures { λ r. ⌜ r ≡ toldOf {P = Unit {0}} (judged tt (readWords 0 (map outputWord os) (a - 500) n tt)) ⌝ }
+    ensures { λ r. ⌜ r ≡ toldOf {P = Unit {0}} (judged tt (readWords outputGroup (map outputWord os) a n tt)) ⌝ }
 {
-    read_words(500, output_words(os), a, n)
+    tell_words(groups::OUTPUTS, output_words(os), a, n)
 }
 
 // 1 to 2: a port's address and speed.
 pub fn read_port(p: Port, a: u16, n: u16) -> Told
-    ensures { λ r. ⌜ r ≡ toldOf {P = Unit {0}} (judged tt (readWords 0 (portWords p) (a - 1) n tt)) ⌝ }
+    ensures { λ r. ⌜ r ≡ toldOf {P = Unit {0}} (judged tt (readWords portGroup (portWords p) a n tt)) ⌝ }
 {
     let mut words = [0u16; 16];
     words[0] = p.address as u16;
     words[1] = p.speed as u16;
-    tell_words(words, 2, octets::less(a, 1), n)
+    tell_words(groups::PORT, words, a, n)
 }
 
 // Status, tenths and float of a reading, and twelve words that do not count.
@@ -136,9 +138,9 @@ fn reading_words(reading: Reading) -> [u16; 16]
 
 // Input registers 0 to 3: the reading.
 pub fn read_input(reading: Reading, a: u16, n: u16) -> Told
-    ensures { λ r. ⌜ r ≡ toldOf {P = Unit {0}} (judged tt (readWords 0 (readingWords reading) a n tt)) ⌝ }
+    ensures { λ r. ⌜ r ≡ toldOf {P = Unit {0}} (judged tt (readWords readingGroup (readingWords reading) a n tt)) ⌝ }
 {
-    tell_words(reading_words(reading), 4, a, n)
+    tell_words(groups::READING, reading_words(reading), a, n)
 }
 
 // Thermostats ----------------------------------------------------------------------------
@@ -163,14 +165,10 @@ fn thermostat_words(h: Thermostat) -> [u16; 16]
 pub fn read_thermostat(hs: [Thermostat; 16], a: u16, n: u16) -> Told
     ensures { λ r. ⌜ r ≡ toldOf {P = Unit {0}} (judged tt (readThermostat hs a n tt)) ⌝ }
 {
-    let k = octets::less(a, 600);
-    if n != 4 {
+    if groups::no_thermostat(a, n as usize) {
         return octets::refuse(9);
     }
-    if k % 4 != 0 {
-        return octets::refuse(9);
-    }
-    let h = outputs::thermostat_at(hs, (k / 4) as usize);
+    let h = outputs::thermostat_at(hs, groups::place(groups::THERMOSTATS, a) / 4);
     octets::tell(show_words(thermostat_words(h), 0, 4))
 }
 
@@ -220,7 +218,7 @@ fn show_bits(v: u16, n: u16) -> Data
 pub fn read_bits(bits: u16, k: u16, n: u16) -> Told
     ensures { λ r. ⌜ r ≡ bitsTold bits k n ⌝ }
 {
-    if 16 < (k as u32) + (n as u32) {
+    if groups::is_outside(groups::BITS, k, n as usize) {
         return octets::refuse(9);
     }
     octets::tell(show_bits(bits_part(bits, k, n), n))

@@ -55,26 +55,23 @@ fn deduct_from(first: u8, d: &[u8], cs: [u16; 16]) -> Judged
     }
 }
 
-// 200 to 215: at most 12 deductions from register a on.
+// 200 to 215: up to twelve deductions from register a on.
 pub fn write_deductions(a: u16, d: &[u8], cs: [u16; 16]) -> Judged
     ensures { λ r. ⌜ r ≡ judgedOf (judged cs (writeDeductions a (words (now (d .entry))) cs)) ⌝ }
 {
     let count = d.len() / 2;
-    if 216 < (a as usize) + count {
+    if groups::is_outside(groups::DEDUCTIONS, a, count) | (12 < count) {
         return counters::deny(9, cs);
     }
-    if 12 < count {
-        return counters::deny(9, cs);
-    }
-    let first = octets::less(a, 199) as u8;
+    let first = groups::number(groups::DEDUCTIONS, a) as u8;
     deduct_from(first, d, cs)
 }
 
-// 0: one value alone, 00FF, gives the permission.
-pub fn write_permission(single: bool, d: &[u8], p: Port) -> PortSet
-    ensures { λ r. ⌜ r ≡ portSetOf (judged p (writePermission single (words (now (d .entry))) p)) ⌝ }
+// 0: the value 00FF, in a single write, permits the port's next request.
+pub fn write_permission(single: bool, a: u16, d: &[u8], p: Port) -> PortSet
+    ensures { λ r. ⌜ r ≡ portSetOf (judged p (writePermission single a (words (now (d .entry))) p)) ⌝ }
 {
-    if !single {
+    if groups::is_outside(groups::PERMISSION, a, d.len() / 2) | !single {
         return PortSet {
             refusal: 9,
             port: p,
@@ -150,20 +147,13 @@ fn set_thermostat(k: usize, d: &[u8], hs: [Thermostat; 16]) -> ThermostatsSet
 pub fn write_thermostat(a: u16, d: &[u8], hs: [Thermostat; 16]) -> ThermostatsSet
     ensures { λ r. ⌜ r ≡ thermostatsSetOf (judged hs (writeThermostat a (words (now (d .entry))) hs)) ⌝ }
 {
-    let k = octets::less(a, 600);
-    if d.len() / 2 != 4 {
+    if groups::no_thermostat(a, d.len() / 2) {
         return ThermostatsSet {
             refusal: 9,
             thermostats: hs,
         };
     }
-    if k % 4 != 0 {
-        return ThermostatsSet {
-            refusal: 9,
-            thermostats: hs,
-        };
-    }
-    set_thermostat((k / 4) as usize, d, hs)
+    set_thermostat(groups::place(groups::THERMOSTATS, a) / 4, d, hs)
 }
 
 // 300 to 315: modes in turn from input `first` on, on a copy.
@@ -196,13 +186,13 @@ fn modes_from(first: u8, d: &[u8], ms: [u8; 16]) -> Moded
 pub fn write_modes(a: u16, d: &[u8], ms: [u8; 16]) -> Moded
     ensures { λ r. ⌜ r ≡ modedOf (judged ms (writeModes a (words (now (d .entry))) ms)) ⌝ }
 {
-    if 316 < (a as usize) + d.len() / 2 {
+    if groups::is_outside(groups::MODES, a, d.len() / 2) {
         return Moded {
             refusal: 9,
             modes: ms,
         };
     }
-    let first = octets::less(a, 299) as u8;
+    let first = groups::number(groups::MODES, a) as u8;
     modes_from(first, d, ms)
 }
 
@@ -243,10 +233,10 @@ fn clear_from(first: u16, d: &[u8], start: [u16; 16]) -> Judged
 pub fn write_counters(a: u16, d: &[u8], cs: [u16; 16]) -> Judged
     ensures { λ r. ⌜ r ≡ judgedOf (judged cs (writeCounters a (words (now (d .entry))) cs)) ⌝ }
 {
-    if 116 < (a as usize) + d.len() / 2 {
+    if groups::is_outside(groups::COUNTERS, a, d.len() / 2) {
         return counters::deny(9, cs);
     }
-    let first = octets::less(a, 99);
+    let first = groups::number(groups::COUNTERS, a) as u16;
     clear_from(first, d, cs)
 }
 
@@ -305,7 +295,7 @@ fn port_from(first: u16, d: &[u8], m: Module) -> ModuleSet
 pub fn write_port(permitted: bool, a: u16, d: &[u8], m: Module) -> ModuleSet
     ensures { λ r. ⌜ r ≡ moduleSetOf (judged m (writePort permitted a (words (now (d .entry))) m)) ⌝ }
 {
-    if 3 < (a as usize) + d.len() / 2 {
+    if groups::is_outside(groups::PORT, a, d.len() / 2) {
         return ModuleSet {
             refusal: 9,
             after: m,

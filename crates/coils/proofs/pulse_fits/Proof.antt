@@ -12,7 +12,7 @@ returns : tie.Need-returns
 unfolding within
 returns c =
     let s = c .args in
-    ap (λ (b : Bool). (within 1 16 (s .n) && b) && (eqb (s .state) 0xFF || eqb (s .state) 0x00)) (byte-within (s .time) (omega arith))
+    ap (λ (b : Bool). b && (eqb (s .state) 0xFF || eqb (s .state) 0x00)) (byte-within (s .time) (omega arith))
 
 pub pulse-fits-spec : {M : Type 1} → statement M
 pulse-fits-spec = tie.close (tie.spec returns)

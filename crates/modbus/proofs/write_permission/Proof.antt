@@ -19,7 +19,7 @@ returns : tie.Need-returns
 unfolding writePermission
 returns c =
     let a = c .before .before .before .before .args in
-    rw (c .bare .ensures, c .before .before .write-permission .ensures) (part-law (withModbus (a .m)) (a .m .modbus) (writePermission (a .single) (words (now (a .d))) (a .m .modbus)) refl)
+    rw (c .bare .ensures, c .before .before .write-permission .ensures) (part-law (withModbus (a .m)) (a .m .modbus) (writePermission (a .single) (a .a) (words (now (a .d))) (a .m .modbus)) refl)
 
 pub write-permission-spec : {M : Type 1} → statement M
 write-permission-spec = tie.close (tie.spec write-permission-requires bare-requires returns)

@@ -1,33 +1,37 @@
--- `registers::tell_words` meets its contract: past the group, or the words. Assumes nothing.
-use borrow.Author.Needs.{needs}
+-- `registers::tell_words` meets its contract: outside the group, or the words. Assumes nothing.
 use native.Mathlib.Omega.{arith}
-use borrow.Author.Tests.{lt-ltb, le-ltb}
+use mathlib.Core.Path.{sym, _∙_}
 use Rattle.model.specs.Refusals.{judged}
-use Rattle.registers.specs.Answers.{wordsTold}
+use Rattle.model.specs.Registers.{readWords}
+use Rattle.groups.proofs.Inside.{inside}
 use Rattle.registers.proofs.tell_words.Statement.{statement}
 use Rattle.registers.proofs.tell_words.Tie as tie
 
-add-if1 : tie.Need-add-if1
-add-if1 c = search needs
-
-refuse-requires : tie.Need-refuse-requires
-refuse-requires c κs = search needs
-
 returns : tie.Need-returns
-unfolding wordsTold judged
-returns c = rw (c .refuse .ensures, lt-ltb _ _ (c .before .if1 .taken))
+unfolding readWords judged
+returns c = rw (c .refuse .ensures, sym (c .before .before .is-outside .ensures) ∙ c .before .if1 .taken)
 
 show-words-requires : tie.Need-show-words-requires
-show-words-requires c κs = omega (arith, c .before .pre)
-
-tell-requires : tie.Need-tell-requires
-tell-requires c κs = search needs
+show-words-requires c κs =
+    let t = c .before .before in
+    let s = t .before in
+    let i = inside (s .args .g) (s .args .a) (s .args .n) (sym (t .is-outside .ensures) ∙ c .before .if1 .left) in
+    omega (arith, s .pre, i .begins, i .ends, c .place .ensures)
 
 returns-2 : tie.Need-returns-2
-unfolding wordsTold judged
-returns-2 c = rw (c .tell .ensures, c .before .show-words .ensures, le-ltb _ _ (c .before .before .if1 .left))
+unfolding readWords judged
+returns-2 c =
+    let p = c .before .before in
+    rw (c .tell .ensures, c .before .show-words .ensures, p .place .ensures, sym (p .before .before .is-outside .ensures) ∙ p .before .if1 .left)
 
 pub tell-words-spec : {M : Type 1} → statement M
 tell-words-spec =
     tie.close
-    (tie.spec add-if1 refuse-requires returns show-words-requires tell-requires returns-2)
+    (tie.spec
+    (λ c κs. tt)
+    (λ c κs. tt)
+    returns
+    (λ c κs. tt)
+    show-words-requires
+    (λ c κs. tt)
+    returns-2)
