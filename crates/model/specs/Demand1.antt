@@ -1,17 +1,18 @@
 -- Demand 1: the conditions of every call in checking order, and what is claimed of every state and call.
 use Prim.Native.Nat.{ℕ, _+_, _≤_}
-use mathlib.Core.Bool.{Bool, true, false, cond}
+use mathlib.Core.Bool.{Bool, true, false, cond, _&&_, _||_}
 use mathlib.Core.List.{List, [], _∷_, _++_}
 use mathlib.Core.Path.{_≡_}
 use mathlib.Core.Logic.{_↔_}
 use lib.Dec.{eqb}
 use lib.ListN.{length, getD}
+use Rattle.lists.specs.Tests.{within}
 use Rattle.lists.specs.Data.{over}
 use Rattle.model.specs.declared.Module.{Module}
 use Rattle.model.specs.Frames.{spinelTo, signatureOf, instructionOf, spinelBroadcast, spinelReply, modbusTo, functionOf, modbusBody, modbusBroadcast, exceptionReply}
 use Rattle.model.specs.Refusals.{bufferShort, frameLengthWrong, shapeWrong, sumWrong, crcWrong, spinelAddressWrong, modbusAddressWrong, spinelBroadcastWrong, modbusBroadcastWrong, Request, ackOf, exceptionOf}
 use Rattle.model.specs.Spinel.{spinelAsked, spinelRequest, spinelUsed}
-use Rattle.model.specs.Modbus.{modbusAsked, modbusUsed}
+use Rattle.model.specs.Modbus.{startOf, modbusAsked, modbusUsed}
 use Rattle.model.specs.Call.{Act, Call, sample, temperature, spinel, modbus}
 use Rattle.model.specs.Calls.{step}
 
@@ -69,12 +70,32 @@ pub data NoneHolds : List Check → Type 0 where
   none : NoneHolds []
   also : (c : Check) (cs : List Check) → c .holds ≡ false → NoneHolds cs → NoneHolds (c ∷ cs)
 
--- the state with the permission of the call's port ended
+-- the state with the permission of the call's port ended, and every other field as it was
 unfoldable pub permissionEnded : Act → Module → Module
 permissionEnded (sample bits) m = m
 permissionEnded (temperature good tenths) m = m
-permissionEnded (spinel f) m = spinelUsed m
-permissionEnded (modbus f) m = modbusUsed m
+permissionEnded (spinel f) m = record {
+  inputs = m .inputs;
+  outputs = m .outputs;
+  presets = m .presets;
+  thermostats = m .thermostats;
+  reading = m .reading;
+  last = m .last;
+  notice = m .notice;
+  spinel = record { address = m .spinel .address; speed = m .spinel .speed; permitted = false };
+  modbus = m .modbus;
+}
+permissionEnded (modbus f) m = record {
+  inputs = m .inputs;
+  outputs = m .outputs;
+  presets = m .presets;
+  thermostats = m .thermostats;
+  reading = m .reading;
+  last = m .last;
+  notice = m .notice;
+  spinel = m .spinel;
+  modbus = record { address = m .modbus .address; speed = m .modbus .speed; permitted = false };
+}
 
 unfoldable pub isBroadcast : Act → Bool
 isBroadcast (sample bits) = false
@@ -101,11 +122,11 @@ pub record Refusals (m : Module) (c : Call) : Type 0 where
   pub late : 7 ≤ step m c .refusal → step m c .after ≡ permissionEnded (c .act) m
   -- and the reply is that number's ACK or exception, without data
   pub told : 7 ≤ step m c .refusal → step m c .reply ≡ refusalReply (step m c .refusal) (c .act) m
-  -- "Broadcasts draw no reply", refused or accepted
+  -- what goes to all modules is not answered, refused or accepted
   pub broadcast : isBroadcast (c .act) ≡ true → step m c .reply ≡ []
   -- a reply of length 0 leaves a lent buffer as it was
   pub untouched : (old : List ℕ) → step m c .reply ≡ [] → over (step m c .reply) old ≡ old
-  -- "Bytes beyond the reply length are never touched"
+  -- what stands behind the reply in the buffer is as it was
   pub beyond : (old : List ℕ) (i : ℕ) → getD (over (step m c .reply) old) (length (step m c .reply) + i) 0 ≡ getD old (length (step m c .reply) + i) 0
   -- a reply fits the least buffer that is not refused, which keeps its length
   pub fits : length (step m c .reply) ≤ 256
@@ -113,3 +134,36 @@ pub record Refusals (m : Module) (c : Call) : Type 0 where
 
 abbrev pub RefusalsHold : Type 0
 RefusalsHold = (m : Module) (c : Call) → Refusals m c
+
+-- The permission of an accepted request --------------------------------------------------
+
+-- a request that gives its port the permission: E4H, or 06 of register 0
+unfoldable pub givesPermission : Act → Bool
+givesPermission (sample bits) = false
+givesPermission (temperature good tenths) = false
+givesPermission (spinel f) = eqb (instructionOf f) 0xE4
+givesPermission (modbus f) = eqb (functionOf f) 0x06 && eqb (startOf (modbusBody f)) 0
+
+-- one that resets: E0H, E3H, or a write of registers from 1 or 2 on
+unfoldable pub resetsModule : Act → Bool
+resetsModule (sample bits) = false
+resetsModule (temperature good tenths) = false
+resetsModule (spinel f) = eqb (instructionOf f) 0xE0 || eqb (instructionOf f) 0xE3
+resetsModule (modbus f) = (eqb (functionOf f) 0x06 || eqb (functionOf f) 0x10) && within 1 2 (startOf (modbusBody f))
+
+-- has the port that a request came by the permission? A sample comes by none
+unfoldable pub portPermitted : Act → Module → Bool
+portPermitted (sample bits) m = false
+portPermitted (temperature good tenths) m = false
+portPermitted (spinel f) m = m .spinel .permitted
+portPermitted (modbus f) m = m .modbus .permitted
+
+-- what holds of an accepted call c in a state m
+pub record Permissions (m : Module) (c : Call) : Type 0 where
+  -- its port is permitted after it exactly where it gives the permission: any other request uses it up
+  pub used : step m c .refusal ≡ 0 → portPermitted (c .act) (step m c .after) ≡ givesPermission (c .act)
+  -- a reset ends both ports' permissions
+  pub ended : step m c .refusal ≡ 0 → resetsModule (c .act) ≡ true → (step m c .after .spinel .permitted ≡ false) × (step m c .after .modbus .permitted ≡ false)
+
+abbrev pub PermissionsHold : Type 0
+PermissionsHold = (m : Module) (c : Call) → Permissions m c

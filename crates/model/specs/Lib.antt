@@ -15,3 +15,4 @@ pub mod Calls
 pub mod Demand1
 pub mod Tally
 pub mod Cycles
+pub mod Parts
