@@ -1,4 +1,4 @@
--- "So an input that differs for that many samples in a row, number unchanged and no reset between, flips on the last of them."
+-- Of samples that all differ from the stable state, one after another, the one that fills the sampling number flips it, and none before.
 -- Assumes nothing.
 use Prim.Native.Nat.{ℕ, zero, suc, _+_, _<_}
 use native.Mathlib.Omega.{arith}
@@ -35,7 +35,7 @@ flips-on-the-last number s =
     ap (lineSampled (suc number) (not s)) (holds-before (suc number) s number (omega arith))
     ∙ rw (differs s, le-leb (suc number) (number + 1) (omega arith))
 
--- a sample equal to the stable state begins anew
+-- an equal one: the run starts over
 pub equal-begins-anew : (number : ℕ) (x : Line) → lineSampled number (x .stable) x ≡ line (x .stable) 0
 unfolding lineSampled
 equal-begins-anew number x = go (x .stable)

@@ -18,7 +18,7 @@ events m (c ∷ cs) = record { act = c .act; refusal = step m c .refusal; reply 
 abbrev pub finalTally : List Call → Tally
 finalTally calls = tally freshTally (events freshModule calls)
 
--- "The counter now is the module's, in the state after the list": input k's
+-- input k's counter as the module holds it once the whole list has run (01, Tally of cycles)
 abbrev pub counterNow : List Call → ℕ → ℕ
 counterNow calls k = getD (run freshModule calls .inputs .counters) (k - 1) 0
 

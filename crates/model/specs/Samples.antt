@@ -14,7 +14,7 @@ use Rattle.model.specs.State.{line, freshLine}
 abbrev pub places : ℕ
 places = 16
 
--- "a counter is 16 bits": its width in bits and in bytes, the value it goes to 0 at, and the largest it holds
+-- a counter's width in bits and in bytes, and the value it goes to 0 at
 abbrev pub counterBits : ℕ
 counterBits = 16
 
@@ -24,12 +24,9 @@ counterBytes = 2
 abbrev pub counterModulus : ℕ
 counterModulus = 65536
 
-abbrev pub counterLimit : ℕ
-counterLimit = 65535
-
--- One input's sample, by the sampling number and the sampled bit. "A sample equal to the stable state sets the run to 0. A differing one
--- adds 1; if the run is then at least the sampling number, the state flips, the run becomes 0." In states that no run reaches: with the
--- number 0, or after a run of 255, a differing sample flips.
+-- debounce of one input, by the sampling number and the sampled bit: an equal sample ends the run, a differing one lengthens it; at the
+-- sampling number the state flips and no run is left. In states that no run of calls reaches: with the number 0, or after a run of 255,
+-- a differing sample flips.
 unfoldable pub lineSampled : ℕ → Bool → Line → Line
 lineSampled number bit x =
     cond (Bool·beq bit (x .stable)) (line (x .stable) 0)
@@ -43,14 +40,14 @@ linesSampled number bits xs = mapi (λ i x. lineSampled number (bitAt bits i) x)
 abbrev pub isEdge : Line → Line → Bool
 isEdge was now = not (Bool·beq (was .stable) (now .stable))
 
--- "Modes: 0 none, 1 rising, 2 falling, 3 both"; a mode above 3 would select none
+-- a mode's low bit selects the edges that rise, its next bit those that fall; a mode above 3 would select none
 unfoldable pub selects : ℕ → Bool → Bool
 selects mode rising =
     cond (eqb mode 1) rising
     (cond (eqb mode 2) (not rising)
     (eqb mode 3))
 
--- selected edge (01): an edge that the mode at that moment selects, "rising if the new state is 1"
+-- selected edge (01): one that the mode, as it stands at the sample, selects; it rises where the input is on after it
 unfoldable pub selectedEdge : ℕ → Line → Line → Bool
 selectedEdge mode was now = isEdge was now && selects mode (now .stable)
 
@@ -58,7 +55,7 @@ selectedEdge mode was now = isEdge was now && selects mode (now .stable)
 unfoldable pub edges : List Line → List Line → List Bool
 edges was now = mapi (λ i x. isEdge x (getD now i freshLine)) was
 
--- "A selected edge adds 1 to the counter", which "goes from 65,535 to 0 on purpose"
+-- one up for a selected edge; the largest value is followed by 0, and that is wanted
 unfoldable pub counted : Bool → ℕ → ℕ
 counted selected c = cond selected ((c + 1) % counterModulus) c
 
@@ -72,6 +69,6 @@ inputsSampled bits x =
     let now = linesSampled (x .sampling) bits (x .lines) in
     record { lines = now; modes = x .modes; counters = countersSampled (x .modes) (x .lines) now (x .counters); sampling = x .sampling }
 
--- "An input reads everywhere as its stable state"
+-- what every read of an input shows: its stable state, never the bit last sampled
 abbrev pub inputStates : Inputs → List Bool
 inputStates x = map (λ (y : Line). y .stable) (x .lines)

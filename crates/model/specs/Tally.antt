@@ -1,4 +1,4 @@
--- 01, Tally of cycles. From the module's state it takes nothing, and it shares no definition with the module but the type of a call:
+-- 01, Tally of cycles. It never looks at the module's state, and it shares no definition with the module but the type of a call:
 -- its debounce, edge selection, frame positions, lists and register ranges are its own. Inputs go by their numbers, 1 to 16.
 use Prim.Native.Nat.{ℕ, zero, suc, _+_, _-_, _*_, _/_, _%_, _^_}
 use mathlib.Core.Bool.{Bool, false, cond, _&&_, _||_}
@@ -7,7 +7,7 @@ use lib.ListN.{length, getD, take, drop}
 use lib.Dec.{ltb, leb, eqb}
 use Rattle.model.specs.Call.{Act, sample, temperature, spinel, modbus}
 
--- what is held for one input; "edges and collected, the last two without upper limit"
+-- what is held for one input; edges and collected are natural numbers, which no width limits
 pub record Account : Type 0 where
   pub stable : ℕ
   pub run : ℕ
@@ -19,7 +19,7 @@ pub record Tally : Type 0 where
   pub sampling : ℕ
   pub input : ℕ → Account
 
--- "Fresh: 20, the rest 0"
+-- before any call: the sampling number of a fresh module, and nothing seen
 abbrev pub freshTally : Tally
 freshTally = record { sampling = 20; input = λ k. record { stable = 0; run = 0; mode = 0; edges = 0; collected = 0 } }
 
@@ -37,16 +37,17 @@ withRun r a = record { stable = a .stable; run = r; mode = a .mode; edges = a .e
 abbrev pub withMode : ℕ → Account → Account
 withMode m a = record { stable = a .stable; run = a .run; mode = m; edges = a .edges; collected = a .collected }
 
+-- collected (01): so much more
 abbrev pub collect : ℕ → Account → Account
 collect v a = record { stable = a .stable; run = a .run; mode = a .mode; edges = a .edges; collected = a .collected + v }
 
--- cleared (01): "edges and collected .. become 0"
+-- cleared (01): edges and collected start over
 abbrev pub clear : Account → Account
 clear a = record { stable = a .stable; run = a .run; mode = a .mode; edges = 0; collected = 0 }
 
--- "Accepted sample: stable states and runs as under Samples and edges; a selected edge adds 1 to edges" -------------
+-- Samples: debounced as 01 has it under Samples and edges; each selected edge is counted --------------------------
 
--- the lowest bit is input 1
+-- input k's bit; bit 0 is for input 1
 abbrev pub sampledBit : ℕ → ℕ → ℕ
 sampledBit bits k = bits / 2 ^ (k - 1) % 2
 
@@ -64,7 +65,7 @@ sampledAccount number b a =
     cond (eqb b (a .stable)) (withRun 0 a)
     (cond (ltb (a .run + 1) number) (withRun (a .run + 1) a) (flip b a))
 
--- Spinel: 2A 61 NUM NUM address signature instruction data SUM 0D ----------------------------------------------------
+-- Spinel: byte 6 is the instruction; its data stands between that and the last two bytes -------------------------------
 
 -- two bytes from place k, high byte first
 abbrev pub twoAt : List ℕ → ℕ → ℕ
@@ -76,24 +77,24 @@ codeOf f = getD f 6 0
 abbrev pub payload : List ℕ → List ℕ
 payload f = take (length f - 9) (drop 7 f)
 
--- 61H, triples of number and two-byte amount: what they take from input k
+-- 61H, three bytes for each deduction, the input and a word: what they take from input k
 unfoldable pub amounts : ℕ → List ℕ → ℕ
 amounts k [] = 0
 amounts k (n ∷ []) = 0
 amounts k (n ∷ h ∷ []) = 0
 amounts k (n ∷ h ∷ l ∷ d) = cond (eqb n k) (h * 256 + l) 0 + amounts k d
 
--- 6AH, pairs of number and mode: input k's mode, m before them
+-- 6AH, two bytes for each input, which one and its mode: input k's mode after them, m before
 unfoldable pub modeGiven : ℕ → List ℕ → ℕ → ℕ
 modeGiven k [] m = m
 modeGiven k (n ∷ []) m = m
 modeGiven k (n ∷ v ∷ d) m = modeGiven k d (cond (eqb n k) v m)
 
--- 60H: "the value in its place of the reply", 2A 61 NUM NUM address signature ACK 10 and the values
+-- 60H: the word for the parameter in place j; the reply's byte 6 is its ACK, byte 7 is 10H, and the words begin at byte 8
 abbrev pub valueAt : List ℕ → ℕ → ℕ
 valueAt r j = twoAt r (8 + 2 * j)
 
--- of the parameter p in place j; "number 0 with bit 7 does so for all sixteen"
+-- what the parameter p in place j collects from input k: nothing without bit 7; with the number k its word, with 0 (all) the k-th word
 unfoldable pub takenBy : ℕ → ℕ → ℕ → List ℕ → ℕ
 takenBy k p j r =
     cond (leb 128 p)
@@ -109,10 +110,11 @@ takenFrom k (p ∷ ps) j r = takenBy k p j r + takenFrom k ps (suc j) r
 unfoldable pub spinelCollects : ℕ → ℕ → List ℕ → List ℕ → ℕ
 spinelCollects k c d r =
     cond (eqb c 0x60) (takenFrom k d 0 r)
-    (cond (eqb c 0x61) (cond (eqb (length d) 1) 0 (amounts k d)) 0)
+    (cond (eqb c 0x61) (amounts k d) 0)
 
+-- 61H with the one byte 00
 unfoldable pub spinelClears : ℕ → List ℕ → Bool
-spinelClears c d = eqb c 0x61 && eqb (length d) 1
+spinelClears c d = eqb c 0x61 && (eqb (length d) 1 && eqb (getD d 0 0) 0)
 
 unfoldable pub spinelResets : ℕ → Bool
 spinelResets c = eqb c 0xE3 || eqb c 0xE0
@@ -178,7 +180,7 @@ tallied (temperature good tenths) r t = t
 tallied (spinel f) r t = spinelTallied (codeOf f) (payload f) r t
 tallied (modbus f) r t = modbusTallied f t
 
--- "every refused one: nothing changes"
+-- a refused call leaves the tally as it was
 abbrev pub ifAccepted : ℕ → Tally → Tally → Tally
 ifAccepted zero t u = u
 ifAccepted (suc n) t u = t
@@ -192,25 +194,18 @@ tally t (e ∷ es) = tally (feed t e) es
 
 -- What an event shows of itself -----------------------------------------------------------------------------------------
 
--- collected (01): what an accepted call adds to input k's collected
-unfoldable pub collects : ℕ → Act → List ℕ → ℕ
-collects k (sample bits) r = 0
-collects k (temperature good tenths) r = 0
-collects k (spinel f) r = spinelCollects k (codeOf f) (payload f) r
-collects k (modbus f) r = modbusCollects k f
-
--- cleared (01) of an accepted call: "reset, 61H 00, or a Modbus zero written"
+-- cleared (01): by an accepted call, a reset on either port, 61H with the one byte 00, or a write to the input's counter register
 unfoldable pub clears : ℕ → Act → Bool
 clears k (sample bits) = false
 clears k (temperature good tenths) = false
 clears k (spinel f) = spinelResets (codeOf f) || spinelClears (codeOf f) (payload f)
 clears k (modbus f) = modbusResets f || modbusClears k f
 
--- uncollected (01): "edges minus collected"
+-- uncollected (01): the edges not yet collected
 abbrev pub uncollected : Tally → ℕ → ℕ
 uncollected t k = t .input k .edges - t .input k .collected
 
--- since input k was last cleared, has uncollected never been above 65,535, "taken after each call"? b says so of the time before the list
+-- since input k was last cleared, has no call left more than 65,535 uncollected? b says so of the time before the list
 unfoldable pub stayed : ℕ → Bool → Tally → List Event → Bool
 stayed k b t [] = b
 stayed k b t (e ∷ es) = stayed k ((b || eqb (e .refusal) 0 && clears k (e .act)) && leb (uncollected (feed t e) k) 65535) (feed t e) es
