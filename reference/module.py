@@ -7,7 +7,7 @@ import struct, copy
 from fractions import Fraction
 
 def f32_bits(t):
-    """tenths/10 in f32, rounded once (round to nearest even), exact."""
+    """The bits of the f32 nearest to t/10, ties to even, worked out in fractions."""
     if t == 0: return 0
     s = 1 if t < 0 else 0
     q = Fraction(abs(t), 10)
@@ -149,7 +149,7 @@ class Module:
         return r, spin(own, sig, ack, d)
 
     def listread(self, d, zero_all=True):
-        """00 alone, or 1 to 12 numbers -> indices"""
+        """The places of the numbers listed, or of all for a single 00."""
         if d == [0] and zero_all: return list(range(16))
         for x in d:
             if not 1 <= x <= 16: raise Ref(11)
