@@ -19,7 +19,7 @@ headOf b = getD b 0 0 ∷ getD b 1 0 ∷ getD b 2 0 ∷ getD b 3 0 ∷ []
 abbrev pub echoed : List ℕ → Served → Served
 echoed b s = record { refusal = s .refusal; after = s .after; body = cond (eqb (s .refusal) 0) (dataOf b) (s .body) }
 
--- "Broadcasts draw no reply"; a refusal is answered by its exception
+-- nothing goes back to address 0; a refusal is answered by its exception
 abbrev pub answeredTo : ℕ → ℕ → ℕ → Served → Handled
 answeredTo own to function s = record {
   refusal = s .refusal;

@@ -14,7 +14,7 @@ pub fn wrong_body(m: Module) -> Served
     answers::bare(8, m)
 }
 
-// 9: in no group open to the function.
+// 9: no group there that the function serves.
 pub fn no_group(m: Module) -> Served
     ensures { λ r. ⌜ r ≡ plain 9 m ⌝ }
 {

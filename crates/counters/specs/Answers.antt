@@ -32,7 +32,7 @@ samplingOf o = record { refusal = o .refusal; inputs = o .part }
 unfoldable pub readable : ℕ → Bool
 readable p = isNumber (numberIn p)
 
--- "0 alone means all", the two high bits aside
+-- a single parameter with number 0, the two high bits aside
 unfoldable pub asksEvery : List ℕ → Bool
 asksEvery d = eqb (length d) 1 && eqb (numberIn (getD d 0 0)) 0
 
@@ -40,7 +40,7 @@ asksEvery d = eqb (length d) 1 && eqb (numberIn (getD d 0 0)) 0
 unfoldable pub everyOf : ℕ → List ℕ
 everyOf p = cond (zeroes p) (map (λ n. 128 + n) everyNumber) everyNumber
 
--- one parameter: the value as the copy then stands, and the copy after it
+-- one parameter: its counter as those before it left the copy, and the copy after it
 unfoldable pub readStep : Readout → ℕ → Readout
 readStep r p = record {
   refusal = r .refusal;

@@ -61,7 +61,7 @@ fn all_readable(ps: &[u8]) -> bool
     true
 }
 
-// Whether the number 0 stands alone, which means all.
+// Whether there is a single parameter with number 0, which stands for all.
 fn asks_every(d: &[u8]) -> bool
     ensures { λ r. ⌜ r ≡ asksEvery (now (d .entry)) ⌝ }
 {
@@ -98,7 +98,7 @@ fn every_of(p: u8) -> [u8; 16]
     ]
 }
 
-// The counters after one parameter: bit 7 zeroes after reading.
+// The counters after one parameter: where it has bit 7, the one read is zeroed.
 fn collect_one(cs: [u16; 16], p: u8) -> [u16; 16]
     ensures { λ r. ⌜ r ≡ readOne cs p ⌝ }
 {
@@ -233,7 +233,7 @@ fn deduct_each(cs: [u16; 16], d: &[u8]) -> Judged
     }
 }
 
-// The one byte 00 clears all counters.
+// A single byte, which must be 00: every counter is cleared.
 fn clear_all(cs: [u16; 16], b: u8) -> Judged
     ensures { λ r. ⌜ r ≡ judgedOf (judged cs (clearAll b)) ⌝ }
 {
@@ -365,7 +365,7 @@ pub fn read_modes(ms: [u8; 16], d: &[u8]) -> Told
     octets::tell(show_modes(ms, d))
 }
 
-// 62H: set the sampling number, 1 to 255.
+// 62H: set the sampling number; 0 is refused.
 pub fn set_sampling(x: Inputs, d: &[u8]) -> SamplingSet
     ensures { λ r. ⌜ r ≡ samplingOf (judged x (setSampling (now (d .entry)) x)) ⌝ }
 {

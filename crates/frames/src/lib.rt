@@ -1,4 +1,4 @@
-// Checks 2 to 6 of both ports' frames (01, Why a call is refused), and the framing of their replies (01, Frames).
+// Checks 2 to 6 of both ports' frames (01, the refusals), and the framing of their replies (01, Frames).
 ghost use mathlib.Core.Path.{_≡_};
 ghost use Prim.Native.Nat.{_+_, _≤_, min};
 ghost use lib.ListN.{length};
@@ -17,7 +17,7 @@ fn frame_length_wrong(least: usize, frame: &[u8]) -> bool
     !((least <= n) & (n <= 256))
 }
 
-// 3. It lacks 2A 61, a final 0D, or a NUM equal to its length minus 4.
+// 3. Not begun by 2A 61, not ended by 0D, or NUM does not tell the bytes that follow it.
 fn shape_wrong(frame: &[u8]) -> bool
     requires { ⌜ 9 ≤ length (now frame) ⌝ }
     ensures { λ r. ⌜ r ≡ shapeWrong (now (frame .entry)) ⌝ }
@@ -70,14 +70,14 @@ fn modbus_address_wrong(own: u8, to: u8) -> bool
     !((to == own) | (to == 0))
 }
 
-// 6. A broadcast of anything but 20H, 23H or 25H.
+// 6. To all modules, and neither 20H nor 23H nor 25H.
 fn spinel_broadcast_wrong(to: u8, i: u8) -> bool
     ensures { λ r. ⌜ r ≡ spinelBroadcastWrong to i ⌝ }
 {
     (to == 0xFF) & !((i == 0x20) | ((i == 0x23) | (i == 0x25)))
 }
 
-// 6. A broadcast of anything but 05 or 0F.
+// 6. To all modules, and neither 05 nor 0F.
 fn modbus_broadcast_wrong(to: u8, function: u8) -> bool
     ensures { λ r. ⌜ r ≡ modbusBroadcastWrong to function ⌝ }
 {
@@ -149,7 +149,7 @@ pub fn modbus_body(frame: &[u8]) -> &[u8]
     &frame[2..end]
 }
 
-// A refusal's ACK, 00 if accepted.
+// The ACK that tells a refusal; 00 tells that there is none.
 pub fn ack_of(n: u8) -> u8
     ensures { λ r. ⌜ r ≡ ackOf n ⌝ }
 {
@@ -241,7 +241,7 @@ fn modbus_head(address: u8, function: u8) -> [u8; 256]
     bytes
 }
 
-// A Modbus reply: address, function, body, and the CRC, low byte first.
+// A Modbus reply: head and body, then their CRC, low byte first.
 pub fn modbus_reply(address: u8, function: u8, body: Data) -> Data
     ensures { λ r. ⌜ r ≡ modbusReplied address function body ⌝ }
 {
@@ -257,7 +257,7 @@ pub fn modbus_reply(address: u8, function: u8, body: Data) -> Data
     }
 }
 
-// The function with bit 7 set; 80H and up stay.
+// The function of an exception: its top bit set, if it was not.
 fn exception_function(function: u8) -> u8
     ensures { λ r. ⌜ r ≡ exceptionFunction function ⌝ }
 {
@@ -268,7 +268,7 @@ fn exception_function(function: u8) -> u8
     }
 }
 
-// An exception reply: address, function with bit 7 set, code and CRC.
+// An exception reply: a Modbus reply of that function, whose body is the code.
 pub fn exception_reply(address: u8, function: u8, code: u8) -> Data
     ensures { λ r. ⌜ r ≡ dataOf (exceptionReply address function code) ⌝ }
 {

@@ -14,7 +14,7 @@ use Rattle.inputs.specs.declared.Sampled.{Sampled}
 unfoldable pub anyEdge : List Line → List Line → Bool
 anyEdge was now = any (λ b. b) (edges was now)
 
--- some line whose mask bit is 1 has one
+-- some line that the mask picks has one
 unfoldable pub anyMasked : ℕ → List Line → List Line → Bool
 anyMasked mask was now = any (λ b. b) (mapi (λ i b. b && bitAt mask i) (edges was now))
 

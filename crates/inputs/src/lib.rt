@@ -71,7 +71,7 @@ pub fn is_selected(mode: u8, was: Line, now: Line) -> bool
     (was.stable != now.stable) & ((mode == 3) | ((mode == 1) & rising) | ((mode == 2) & !rising))
 }
 
-// A counter steps by the wrapping add: from 65,535 it goes to 0.
+// One more for a selected edge, by `wrapping_add_u16`: the largest value is followed by 0.
 pub fn count(selected: bool, counter: u16) -> u16
     ensures { λ r. ⌜ r ≡ counted selected counter ⌝ }
 {

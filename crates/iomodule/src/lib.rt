@@ -76,7 +76,7 @@ fn notice_due(n: Notice, edged: bool, was: [Line; 16], now: [Line; 16]) -> bool
     inputs::any_masked(n.mask, was, now)
 }
 
-// Inputs, counters, pulses; then whether the notice is due.
+// Debounce and counting, then the pulses; and whether a notice is due.
 fn step(m: Module, bits: u16) -> Stepped
     ensures { λ r. ⌜ r ≡ steppedOf bits m ⌝ }
 {
@@ -98,7 +98,7 @@ fn step(m: Module, bits: u16) -> Stepped
     }
 }
 
-// Condition 1: the lent buffer has fewer than 256 bytes.
+// Condition 1: the lent buffer could not take a frame of 256 bytes.
 fn is_short(room: usize) -> bool
     ensures { λ r. ⌜ r ≡ bufferShort room ⌝ }
 {
@@ -116,7 +116,7 @@ fn no_room(m: Module) -> Answer
     }
 }
 
-// The millisecond sample: sixteen bits, the lowest is input 1.
+// The millisecond sample: sixteen bits, bit 0 for input 1.
 pub fn sample(m: Module, bits: u16, reply: &mut [u8]) -> Answer
     ensures { λ r. ⌜ Answered (sampleCall (length (now (reply .entry))) bits m) r (now (reply .entry)) (now (reply .exit)) ⌝ }
 {
@@ -166,7 +166,7 @@ fn heated(m: Module, good: bool, tenths: i16) -> Module
     }
 }
 
-// The temperature sample: a good mark, signed tenths. It has no buffer and no refusal.
+// The temperature sample: whether the value is good, and its tenths. It has no buffer and no refusal.
 pub fn temperature(m: Module, good: bool, tenths: i16) -> Answer
     ensures { λ r. ⌜ r ≡ answerOf (temperatureCall 0 good tenths m) ⌝ }
 {

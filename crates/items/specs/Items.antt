@@ -11,7 +11,7 @@ use Rattle.model.specs.Counters.{isNumber, mostItems, itemsOf, listed}
 unfoldable pub itemsIn : ℕ → ℕ → Bool
 itemsIn w n = eqb (n % w) 0 && within 1 mostItems (n / w)
 
--- the one byte 00: all, in `listed`
+-- a single 00, which `listed` takes for all
 unfoldable pub asksAll : List ℕ → Bool
 asksAll d = eqb (length d) 1 && eqb (getD d 0 0) 0
 

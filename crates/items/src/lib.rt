@@ -36,7 +36,7 @@ pub fn all_numbers(d: &[u8]) -> bool
     true
 }
 
-// Whether the list is 00 alone, which means all.
+// Whether the list is a single 00, which stands for all.
 pub fn is_all(d: &[u8]) -> bool
     ensures { λ r. ⌜ r ≡ asksAll (now (d .entry)) ⌝ }
 {

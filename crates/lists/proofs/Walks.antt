@@ -19,7 +19,7 @@ module _ {E S R : Type 0} (ok : S → E → Bool) (step : S → E → S) (won : 
   unfolding walk
   turn-ends es q = rw q
 
--- judging as the copy then stands, and applying all, is the walk
+-- judging each on what those before it left, and applying all, is the walk
 pub walk-splits : {E S R : Type 0} (ok : S → E → Bool) (step : S → E → S) (won : S → R) (lost : R) (es : List E) (s : S)
     → walk ok step won lost s es ≡ cond (allPass ok step s es) (won (foldl step s es)) lost
 unfolding walk allPass

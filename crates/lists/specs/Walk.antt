@@ -1,8 +1,8 @@
--- A list taken left to right on a copy: the first item that fails its test refuses the whole.
+-- Items applied to a copy, one after another: the first that fails its test refuses the whole.
 use mathlib.Core.List.{List, [], _∷_}
 use mathlib.Core.Bool.{Bool, true, false, cond}
 
--- every item passes its test, each on the copy as it then stands
+-- every item passes its test, each on what those before it made of the copy
 unfoldable pub allPass : {E S : Type 0} → (S → E → Bool) → (S → E → S) → S → List E → Bool
 allPass ok step s [] = true
 allPass ok step s (e ∷ es) = cond (ok s e) (allPass ok step (step s e) es) false

@@ -5,9 +5,9 @@ use mathlib.Core.List.{List}
 use lib.IntN.{ℤ}
 
 pub data Act : Type 0 where
-  -- a millisecond sample: its bits, the lowest is input 1
+  -- the sixteen inputs once each millisecond, as a number: its bit 0 is input 1
   sample : ℕ → Act
-  -- a temperature sample: a good mark, signed tenths
+  -- the thermometer: whether the value can be trusted, and the value in tenths of a degree
   temperature : Bool → ℤ → Act
   -- a frame's bytes
   spinel : List ℕ → Act

@@ -18,7 +18,7 @@ use Rattle.model.specs.Spinel.{spinelHandled}
 use Rattle.model.specs.Modbus.{modbusHandled}
 use Rattle.model.specs.Call.{Act, Call, sample, temperature, spinel, modbus}
 
--- "The order in one sample call: inputs, counters, pulses, notice"
+-- one sample (01, Samples and edges): debounce, then counting, then one step of every pulse; the notice comes last and sees the new inputs
 unfoldable pub sampled : ℕ → Module → Out
 sampled bits m =
     let x = inputsSampled bits (m .inputs) in
@@ -28,7 +28,7 @@ sampled bits m =
       reply = noticeWritten (m .spinel .address) (m .notice) (edges (m .inputs .lines) (x .lines)) x;
     }
 
--- "A refused sample is no sample"
+-- too short a buffer (1): the sample is lost, and neither a run nor a counter nor a pulse moves
 unfoldable pub sampleCall : ℕ → ℕ → Module → Out
 sampleCall room bits m = cond (bufferShort room) (silent 1 m) (sampled bits m)
 
@@ -66,11 +66,11 @@ unfoldable pub replies : Module → List Call → List Reply
 replies m [] = []
 replies m (c ∷ cs) = record { refusal = step m c .refusal; bytes = step m c .reply } ∷ replies (step m c .after) cs
 
--- the answer as the code gives it: "the number (0 if accepted) and the reply length"
+-- the answer as the code gives it: which refusal (0: none), how many bytes were written, the state after
 abbrev pub answerOf : Out → Answer
 answerOf o = record { refusal = o .refusal; len = length (o .reply); after = o .after }
 
--- what a call promises: the answer, and the lent buffer after it. "Bytes beyond the reply length are never touched"
+-- what a call promises: the answer, and the lent buffer after it, which begins with the reply and from there on is as it came
 pub record Answered (o : Out) (r : Answer) (old new : List ℕ) : Type 0 where
   pub answer : r ≡ answerOf o
   pub buffer : new ≡ over (o .reply) old

@@ -16,7 +16,7 @@ use Rattle.model.specs.State.{line, freshOutput, permit, port, withSampl
 use Rattle.model.specs.Samples.{places, counterBits, counterBytes}
 use Rattle.model.specs.Refusals.{Request, accepting, refuse8, refuse10, refuse11}
 
--- "Numbers of inputs and outputs are 1 to 16, else 11"
+-- an input or output that there is; any other number is refused 11
 abbrev pub isNumber : ℕ → Bool
 isNumber n = within 1 places n
 
@@ -24,11 +24,11 @@ isNumber n = within 1 places n
 abbrev pub mostItems : ℕ
 mostItems = 12
 
--- "1 to 12" items of w bytes each, and nothing over
+-- from one to twelve items of w bytes each, and no byte over: what 8 asks of a list
 unfoldable pub itemsOf : ℕ → List ℕ → Bool
 itemsOf w d = eqb (length d % w) 0 && within 1 mostItems (length d / w)
 
--- no data is named
+-- data, which 8 refuses where the instruction takes none
 abbrev pub someData : List ℕ → Bool
 someData d = not (eqb (length d) 0)
 
@@ -36,7 +36,7 @@ someData d = not (eqb (length d) 0)
 abbrev pub everyNumber : List ℕ
 everyNumber = 1 ∷ 2 ∷ 3 ∷ 4 ∷ 5 ∷ 6 ∷ 7 ∷ 8 ∷ 9 ∷ 10 ∷ 11 ∷ 12 ∷ 13 ∷ 14 ∷ 15 ∷ 16 ∷ []
 
--- list read (01): "00 alone (all) or 1 to 12 numbers"
+-- list read (01): a single 00 asks for every number, all else for the numbers that it lists
 unfoldable pub listed : List ℕ → List ℕ
 listed d = cond (eqb (length d) 1 && eqb (getD d 0 0) 0) everyNumber d
 
@@ -46,14 +46,14 @@ listRead show d p = refuse8 (not (itemsOf 1 d)) (refuse11 (not (all isNumber (li
 
 -- 60H: read, and collect --------------------------------------------------------------
 
--- "bit 7 set zeroes after reading, bit 6 is ignored, bits 5 to 0 are a number"
+-- a parameter: its top bit asks to zero the counter once it is read, its low six bits name the input, and bit 6 says nothing
 abbrev pub zeroes : ℕ → Bool
 zeroes p = leb 128 p
 
 abbrev pub numberIn : ℕ → ℕ
 numberIn p = p % 64
 
--- "0 alone means all"
+-- a single parameter that names number 0 stands for the sixteen, each with its top bit
 unfoldable pub parameters : List ℕ → List ℕ
 parameters d =
     cond (eqb (length d) 1 && eqb (numberIn (getD d 0 0)) 0)
@@ -63,7 +63,7 @@ parameters d =
 unfoldable pub readOne : List ℕ → ℕ → List ℕ
 readOne cs p = cond (zeroes p) (set cs (numberIn p - 1) 0) cs
 
--- "Reply 10H, then two bytes each, as the copy then stands"
+-- what follows the reply's 10H: each parameter's counter in two bytes, as the parameters before it left the copy
 unfoldable pub valuesRead : List ℕ → List ℕ → List ℕ
 valuesRead [] cs = []
 valuesRead (p ∷ ps) cs = bytes counterBytes (getD cs (numberIn p - 1) 0) ++ valuesRead ps (readOne cs p)
@@ -76,14 +76,14 @@ readCounters d cs =
 
 -- 61H: deduct, or clear all ------------------------------------------------------------
 
--- a deduction is not "above its counter", as the copy then stands
+-- the input exists, and its counter, as the deductions before this one left it, covers the amount
 unfoldable pub deductible : List ℕ → Entry → Bool
 deductible cs e = isNumber (e .number) && leb (e .value) (getD cs (e .number - 1) 0)
 
 unfoldable pub deductOne : List ℕ → Entry → List ℕ
 deductOne cs e = set cs (e .number - 1) (getD cs (e .number - 1) 0 - e .value)
 
--- "Lists go left to right on a copy that replaces the state only if all is accepted"
+-- all or none: the counters change only where every amount was covered in its turn
 unfoldable pub deduct : List Entry → List ℕ → Request (List ℕ)
 deduct es cs = refuse11 (not (allPass deductible deductOne cs es)) (accepting (foldl deductOne cs es) [])
 
@@ -94,7 +94,7 @@ clearedCounters = replicate places 0
 unfoldable pub clearAll : ℕ → Request (List ℕ)
 clearAll b = refuse11 (not (eqb b 0)) (accepting clearedCounters [])
 
--- "1 to 12 triples of number and two-byte amount .. or the one byte 00"
+-- one byte clears, and must be 00; else three bytes for each deduction, the input and the amount
 unfoldable pub deductCounters : List ℕ → List ℕ → Request (List ℕ)
 deductCounters d cs =
     cond (eqb (length d) 1) (clearAll (getD d 0 0))
@@ -111,11 +111,11 @@ setMode ms e = set ms (e .number - 1) (e .value)
 unfoldable pub setModes : List Entry → List ℕ → Request (List ℕ)
 setModes es ms = refuse11 (not (all modeSettable es)) (accepting (foldl setMode ms es) [])
 
--- "1 to 12 pairs of number and mode"
+-- 6AH: two bytes for each input, which one and its new mode
 unfoldable pub setModesList : List ℕ → List ℕ → Request (List ℕ)
 setModesList d ms = refuse8 (not (itemsOf 2 d)) (setModes (entries 2 d) ms)
 
--- "list read, one mode each"
+-- 6BH: a byte for each input asked for
 unfoldable pub modeShown : List ℕ → ℕ → List ℕ
 modeShown ms n = getD ms (n - 1) 0 ∷ []
 
@@ -129,7 +129,7 @@ readSampling d x p = refuse8 (someData d) (accepting p (x .sampling ∷ []))
 
 -- E4H, E0H, F0H, E3H: permission, address and speed, reset -------------------------------------
 
--- reset (01) of each part: "zeroes counters, runs, outputs and pulses, ends both permissions"; all else it keeps
+-- reset (01) of each part: outputs go off and their pulses end, counters and runs start from 0, no port stays permitted; all else it keeps
 unfoldable pub resetInputs : Inputs → Inputs
 resetInputs x = record { lines = map (λ (y : Line). line (y .stable) 0) (x .lines); modes = x .modes; counters = clearedCounters; sampling = x .sampling }
 
@@ -146,11 +146,11 @@ reset m = record {
   modbus = permit false (m .modbus);
 }
 
--- "E4H gives a permission"; to FE it is refused 10
+-- E4H permits the port's next request to configure; to FE it is refused 10
 unfoldable pub givePermission : Bool → List ℕ → Port → Request Port
 givePermission toUniversal d p = refuse8 (someData d) (refuse10 toUniversal (accepting (permit true p) []))
 
--- E0H: "address 00 to FD, speed 00 to 0B", needs the permission, "then resets"
+-- E0H: a new address, which may be no special one, and one of twelve speed codes; with a permission only, not to FE, and then a reset
 unfoldable pub setPort : Bool → Bool → List ℕ → Module → Request Module
 setPort permitted toUniversal d m =
     refuse8 (not (eqb (length d) 2))
@@ -158,10 +158,10 @@ setPort permitted toUniversal d m =
     (refuse11 (not (within 0x00 0xFD (getD d 0 0) && within 0x00 0x0B (getD d 1 0)))
     (accepting (reset (withSpinel m (port (getD d 0 0) (getD d 1 0) false))) [])))
 
--- "F0H reads both"
+-- F0H: the port's address, then its speed code
 unfoldable pub readPort : {P : Type 0} → List ℕ → Port → P → Request P
 readPort d p q = refuse8 (someData d) (accepting q (p .address ∷ p .speed ∷ []))
 
--- "E3H replies, then resets"
+-- E3H: a reset and nothing else
 unfoldable pub resetModule : List ℕ → Module → Request Module
 resetModule d m = refuse8 (someData d) (accepting (reset m) [])

@@ -7,17 +7,17 @@ use lib.Dec.{eqb, leb}
 use lib.ListN.{length, getD, take, drop}
 use Rattle.lists.specs.Numbers.{wordAt, bytes}
 
--- Spinel: 2A 61, NUM, address, signature, instruction, data, SUM, 0D ---------------
+-- Spinel, by places: 0 2A, 1 61, 2 and 3 NUM, 4 address, 5 signature, 6 instruction, 7 on data; the last two SUM and 0D ------
 
 unfoldable pub total : List ℕ → ℕ
 total [] = 0
 total (b ∷ bs) = b + total bs
 
--- SUM (01): "255 minus the sum, modulo 256, of all bytes before it"
+-- SUM (01): the byte that brings the bytes before it to 255, modulo 256
 abbrev pub sumOf : List ℕ → ℕ
 sumOf bs = 255 - total bs % 256
 
--- NUM (01): "2 bytes, count of bytes after it"
+-- NUM (01): the word that tells how many bytes follow it
 abbrev pub numOf : List ℕ → ℕ
 numOf f = wordAt f 2
 
@@ -34,7 +34,7 @@ instructionOf f = getD f 6 0
 abbrev pub spinelData : List ℕ → List ℕ
 spinelData f = take (length f - 9) (drop 7 f)
 
--- "FE is the universal address, FF the broadcast"
+-- the two addresses that every module takes for its own: the universal one is answered, the broadcast is not
 abbrev pub universal : ℕ
 universal = 0xFE
 
@@ -45,11 +45,11 @@ spinelBroadcast = 0xFF
 abbrev pub closed : List ℕ → List ℕ
 closed bs = bs ++ sumOf bs ∷ 0x0D ∷ []
 
--- a reply: "the module's address, the request's signature and an ACK for the instruction", then data
+-- a reply: from this address, under the signature of what it answers, with an ACK where the instruction stood, then data
 unfoldable pub spinelReply : ℕ → ℕ → ℕ → List ℕ → List ℕ
 spinelReply address signature ack data′ = closed (0x2A ∷ 0x61 ∷ bytes 2 (length data′ + 5) ++ address ∷ signature ∷ ack ∷ data′)
 
--- Modbus: address, function, body, CRC -----------------------------------------------
+-- Modbus, by places: 0 address, 1 function, 2 on body; the last two CRC -------------------
 
 -- one bit, the lowest first: where it is 1, exclusive or with the reflected polynomial A001H
 unfoldable pub crcBit : ℕ → ℕ
@@ -62,7 +62,7 @@ crcBits (suc n) c = crcBits n (crcBit c)
 unfoldable pub crcByte : ℕ → ℕ → ℕ
 crcByte c b = crcBits 8 (bitXor c b)
 
--- CRC (01): "start FFFFH, reflected polynomial A001H"
+-- CRC (01): from sixteen set bits on, every byte in its turn
 unfoldable pub crcOf : List ℕ → ℕ
 crcOf bs = foldl crcByte 0xFFFF bs
 
@@ -76,7 +76,7 @@ functionOf f = getD f 1 0
 abbrev pub modbusBody : List ℕ → List ℕ
 modbusBody f = take (length f - 4) (drop 2 f)
 
--- "Address 0 is the broadcast"
+-- to every module, and answered by none
 abbrev pub modbusBroadcast : ℕ
 modbusBroadcast = 0
 
@@ -87,7 +87,7 @@ withCrc bs = bs ++ crcOf bs % 256 ∷ crcOf bs / 256 ∷ []
 abbrev pub modbusReply : ℕ → ℕ → List ℕ → List ℕ
 modbusReply address function body = withCrc (address ∷ function ∷ body)
 
--- "An exception reply has the function with bit 7 set (80H and up stay) and a code"
+-- an exception tells its function by the top bit, which a function from 80H up has already
 abbrev pub exceptionFunction : ℕ → ℕ
 exceptionFunction function = cond (leb 128 function) function (function + 128)
 

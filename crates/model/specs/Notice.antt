@@ -1,4 +1,4 @@
--- 01, Outputs and notice: the notice (01), a frame that a sample writes after edges.
+-- 01, Outputs and notice: the notice (01), a frame that a sample leaves in its buffer when inputs have flipped.
 use Prim.Native.Nat.{ℕ}
 use mathlib.Core.Bool.{Bool, cond, not, _&&_, _||_}
 use mathlib.Core.List.{List, [], _∷_}
@@ -20,27 +20,27 @@ use Rattle.model.specs.Outputs.{statesShown}
 abbrev pub isOn : Notice → Bool
 isOn n = not (eqb (n .format) 0)
 
--- the mask given, or "without it, all inputs"
+-- the mask of the request, or every input where it has none
 abbrev pub maskGiven : List ℕ → ℕ
 maskGiven d = cond (eqb (length d) 1) 0xFFFF (wordAt d 1)
 
--- 10H. "01 and optionally a two-byte mask .. turns the notice on, refused 11 if on; 00 alone turns it off and zeroes the mask;
--- 00 with a mask, or another first byte, is 11"
+-- 10H: a first byte 1 switches on, with or without a mask, and is refused 11 while the notice is on; a 0 switches off and empties the
+-- mask, but is refused 11 where a mask follows it; so is every other first byte
 unfoldable pub setNotice : ℕ → List ℕ → Notice → Request Notice
 setNotice signature d n =
     refuse8 (not (eqb (length d) 1 || eqb (length d) 3))
     (refuse11 (cond (eqb (getD d 0 0) 0x01) (isOn n) (not (eqb (getD d 0 0) 0x00 && eqb (length d) 1)))
     (accepting (cond (eqb (getD d 0 0) 0x01) (notice 0x61 (maskGiven d) signature) (notice 0 0 (n .signature))) []))
 
--- "11H reads 61H or 00 and the mask": the format byte as it is stored
+-- 11H: the format byte as it is stored, then the mask
 unfoldable pub readNotice : {P : Type 0} → List ℕ → Notice → P → Request P
 readNotice d n p = refuse8 (someData d) (accepting p (n .format ∷ bytes 2 (n .mask)))
 
--- an edge, "whatever the mode", of an input "whose mask bit is 1"
+-- while on, an edge of any input that the mask picks; the input's mode has no part in it
 unfoldable pub noticed : Notice → List Bool → Bool
 noticed n edged = isOn n && any (λ b. b) (mapi (λ i b. b && bitAt (n .mask) i) edged)
 
--- "one frame: the module's address, the signature of the enabling request, ACK 0DH, all inputs as in 31H"
+-- built as a reply is, under the signature of the request that switched it on; its data is what 31H shows of the inputs
 unfoldable pub noticeFrame : ℕ → Notice → Inputs → List ℕ
 noticeFrame address n x = spinelReply address (n .signature) 0x0D (statesShown (inputStates x))
 

@@ -21,20 +21,20 @@ use Rattle.model.specs.Temperature.{active, freeAt}
 
 -- Pulses ------------------------------------------------------------------------------
 
--- one sample of an output: at a pulse's last sample it "turns opposite"
+-- one sample of an output: the last one of its pulse inverts it
 unfoldable pub pulsed : Output → Output
 pulsed o =
     cond (eqb (o .left) 0) o
     (cond (eqb (o .left) 1) (output (not (o .on)) 0)
     (output (o .on) (o .left - 1)))
 
--- remaining time (01): "in half seconds rounded up, 0 without a pulse, 255 where it is more"
+-- remaining time (01): a half second begun counts whole; no pulse is 0, and what a byte does not hold shows as 255
 unfoldable pub remaining : ℕ → ℕ
 remaining left = cond (ltb 255 ((left + 499) / 500)) 255 ((left + 499) / 500)
 
 -- Setting outputs -----------------------------------------------------------------------
 
--- set byte (01): "bit 7 (on) and output 1 to 16"; as an entry, the value 1 for on
+-- set byte (01): the top bit for on, below it the output's number; as an entry, the value 1 for on
 unfoldable pub setByte : ℕ → Entry
 setByte b = entry (b % 128) (b / 128)
 
@@ -44,7 +44,7 @@ turnsOn e = eqb (e .value) 1
 abbrev pub numberFits : Entry → Bool
 numberFits e = isNumber (e .number)
 
--- a set "ends the pulse"
+-- a set: no pulse is left there
 unfoldable pub setOutput : List Output → Entry → List Output
 setOutput os e = set os (e .number - 1) (output (turnsOn e) 0)
 
@@ -59,22 +59,22 @@ actOn act r hs es os =
     (refuse12 (not (all (λ e. freeAt r hs (e .number)) es))
     (accepting (foldl act os es) []))
 
--- "20H takes 1 to 12" set bytes
+-- 20H: a set byte for each output
 unfoldable pub setOutputs : Reading → List Thermostat → List ℕ → List Output → Request (List Output)
 setOutputs r hs d os = refuse8 (not (itemsOf 1 d)) (actOn setOutput r hs (map setByte d) os)
 
--- pulses of one time, which is "1 to 255 half seconds"
+-- pulses of one time; 0 is refused 11
 unfoldable pub pulseOutputs : HalfSeconds → Reading → List Thermostat → List Entry → List Output → Request (List Output)
 pulseOutputs time r hs es os =
     refuse11 (not (within 1 255 (time .0))) (actOn (startPulse time) r hs es os)
 
--- "23H: time, then 1 to 12" set bytes
+-- 23H: a byte of time for them all, then a set byte for each output
 unfoldable pub setPulses : Reading → List Thermostat → List ℕ → List Output → Request (List Output)
 setPulses r hs d os = refuse8 (not (itemsOf 1 (drop 1 d))) (pulseOutputs (halfSeconds (getD d 0 0)) r hs (map setByte (drop 1 d)) os)
 
 -- Presets -----------------------------------------------------------------------------
 
--- output, "type (0 none, 2 positive: on first, 3 negative: off first)", time
+-- a preset's three bytes: an output that there is, then no pulse (0), or one that begins with on (2) or off (3) and has a time
 unfoldable pub presetSettable : List ℕ → Bool
 presetSettable c =
     isNumber (getD c 0 0)
@@ -84,7 +84,7 @@ presetSettable c =
 unfoldable pub setPreset : List Preset → List ℕ → List Preset
 setPreset ps c = set ps (getD c 0 0 - 1) (preset (getD c 1 0) (getD c 2 0))
 
--- "26H: 1 to 12 triples"
+-- 26H: three bytes for each preset
 unfoldable pub setPresets : List ℕ → List Preset → Request (List Preset)
 setPresets d ps = refuse8 (not (itemsOf 3 d)) (refuse11 (not (all presetSettable (chunks 3 d))) (accepting (foldl setPreset ps (chunks 3 d)) []))
 
@@ -96,7 +96,7 @@ presetOf ps n = getD ps (n - 1) freshPreset
 unfoldable pub startPreset : List Preset → List Output → ℕ → List Output
 startPreset ps os n = set os (n - 1) (output (eqb (presetOf ps n .kind) 2) (halfSecondSamples (presetOf ps n .time)))
 
--- "25H starts 1 to 12 presets, type 0 is refused 11"
+-- 25H: a preset of type 0 has no pulse to start, which is refused 11
 unfoldable pub presetReady : List Preset → ℕ → Bool
 presetReady ps n = isNumber n && not (eqb (presetOf ps n .kind) 0)
 
@@ -109,17 +109,17 @@ startPresets ps r hs d os =
 
 -- Reading outputs -----------------------------------------------------------------------
 
--- 33H: "set byte, remaining time"
+-- 33H: the set byte of the state it is in, then what is left of its pulse
 unfoldable pub pulseShown : List Output → ℕ → List ℕ
 pulseShown os n =
     let o = getD os (n - 1) freshOutput in
     (cond (o .on) 128 0 + n) ∷ remaining (o .left) ∷ []
 
--- 36H: "type and time"
+-- 36H: the preset as it is stored
 unfoldable pub presetShown : List Preset → ℕ → List ℕ
 presetShown ps n = presetOf ps n .kind ∷ presetOf ps n .time .0 ∷ []
 
--- 38H: "A0H + the flags' SSK moved to bits 2 to 0 where F is 1, else the type"
+-- 38H: an active thermostat shows as A0H with its SS and K for the low three bits; without one, the preset's type
 unfoldable pub modeByte : List Thermostat → List Preset → ℕ → List ℕ
 modeByte hs ps n =
     let h = getD hs (n - 1) freshThermostat in
@@ -128,7 +128,7 @@ modeByte hs ps n =
 abbrev pub outputStates : List Output → List Bool
 outputStates os = map (λ (o : Output). o .on) os
 
--- 30H, 31H: "two bytes, lowest numbers last"
+-- 30H, 31H: one word, whose lowest bit is number 1
 abbrev pub statesShown : List Bool → List ℕ
 statesShown bs = bytes 2 (bitsNumber bs)
 

@@ -1,4 +1,4 @@
--- 01, Why a call is refused, in checking order: each condition by its name.
+-- 01, the twelve refusals, in the order of their checks: each condition by its name.
 use Prim.Native.Nat.{ℕ, zero, suc, _-_, _/_, _%_}
 use mathlib.Core.Bool.{Bool, true, false, cond, not, _&&_, _||_}
 use mathlib.Core.List.{List, []}
@@ -8,15 +8,15 @@ use Rattle.lists.specs.Tests.{within}
 use Rattle.model.specs.declared.Module.{Module}
 use Rattle.model.specs.Frames.{sumOf, numOf, spinelTo, instructionOf, universal, spinelBroadcast, crcOf, modbusTo, functionOf, modbusBroadcast}
 
--- 1. "The lent reply buffer has fewer than 256 bytes"
+-- 1. the buffer could not take a frame of the greatest length, 256 bytes
 abbrev pub bufferShort : ℕ → Bool
 bufferShort room = ltb room 256
 
--- 2. "A Spinel frame has under 9 or over 256 bytes, a Modbus frame under 4 or over 256"
+-- 2. too short for the fixed parts of its kind (`least`: Spinel 9, Modbus 4), or longer than 256
 abbrev pub frameLengthWrong : ℕ → List ℕ → Bool
 frameLengthWrong least f = not (within least 256 (length f))
 
--- 3. "A Spinel frame lacks 2A 61, a final 0D, or a NUM equal to its length minus 4"
+-- 3. not begun by 2A 61, not ended by 0D, or NUM does not tell the bytes that follow it
 unfoldable pub shapeWrong : List ℕ → Bool
 shapeWrong f =
     not (eqb (getD f 0 0) 0x2A
@@ -24,7 +24,7 @@ shapeWrong f =
     && (eqb (getD f (length f - 1) 0) 0x0D
     && eqb (numOf f) (length f - 4))))
 
--- 4. "SUM or CRC is wrong": the last byte but one; the last two, low byte first
+-- 4. the check is not that of the bytes before it: SUM in the last byte but one, CRC in the last two, low byte first
 unfoldable pub sumWrong : List ℕ → Bool
 sumWrong f = not (eqb (getD f (length f - 2) 0) (sumOf (take (length f - 2) f)))
 
@@ -33,15 +33,15 @@ crcWrong f =
     not (eqb (getD f (length f - 2) 0) (crcOf (take (length f - 2) f) % 256)
     && eqb (getD f (length f - 1) 0) (crcOf (take (length f - 2) f) / 256))
 
--- 5. "The address is neither the module's own nor one of that port's special ones"; an own address equal to a special one, which no
--- setting gives, means what the special one means
+-- 5. meant for another module: neither to this port's address nor to one that all take for theirs; an own address equal to a special one,
+-- which no setting gives, means what the special one means
 unfoldable pub spinelAddressWrong : ℕ → ℕ → Bool
 spinelAddressWrong own to = not (eqb to own || (eqb to universal || eqb to spinelBroadcast))
 
 unfoldable pub modbusAddressWrong : ℕ → ℕ → Bool
 modbusAddressWrong own to = not (eqb to own || eqb to modbusBroadcast)
 
--- 6. "A broadcast carries anything but Spinel 20H, 23H, 25H or Modbus 05, 0F"
+-- 6. to all modules, and not one of the requests that command outputs: 20H, 23H, 25H on Spinel, 05 and 0F on Modbus
 unfoldable pub spinelBroadcastWrong : ℕ → ℕ → Bool
 spinelBroadcastWrong to i = eqb to spinelBroadcast && not (eqb i 0x20 || (eqb i 0x23 || eqb i 0x25))
 
@@ -66,17 +66,17 @@ modbusFrameRefusal own f =
 
 -- A request that has passed 1 to 6, on the part P of the state that it may change: which of 7 to 12 hold, and what it comes to where none does.
 pub record Request (P : Type 0) : Type 0 where
-  -- 7. "The instruction or function isn't on this page"
+  -- 7. a code that 01 gives no meaning
   pub unlisted : Bool
-  -- 8. "The data length (none where no data is named), byte count or the function's quantity isn't one allowed below"
+  -- 8. more or less data than the code takes, a byte count that does not fit, or a quantity that the function does not take
   pub lengthWrong : Bool
-  -- 9. "A Modbus address range isn't wholly in one group open to that function, or breaks that group's own count or alignment"
+  -- 9. registers or coils outside the groups that the function serves, across the end of one, or too many or wrongly placed for theirs
   pub rangeWrong : Bool
-  -- 10. "The call needs a configuration permission it lacks, or E4H or E0H came to FE"
+  -- 10. configuring while the port is not permitted to; also E4H and E0H sent to the universal address
   pub notPermitted : Bool
-  -- 11. "A number or value is outside its stated range, or a deduction is above its counter"
+  -- 11. a number, mode, time or other value that its place does not take, or more to deduct than was counted
   pub valueWrong : Bool
-  -- 12. "A thermostat holds the output"
+  -- 12. an output that its thermostat does not let go of now
   pub held : Bool
   -- the part after it
   pub after : P
@@ -124,7 +124,7 @@ refused n p = record { refusal = n; part = p; reply = [] }
 abbrev pub doneAt : {P Q : Type 0} → (P → Q) → Done P → Done Q
 doneAt put o = record { refusal = o .refusal; part = put (o .part); reply = o .reply }
 
--- 7 to 12 in checking order; "A refusal changes no state" and has no data
+-- the first of 7 to 12 that holds; the part is then as before, and the reply without data
 unfoldable pub judged : {P : Type 0} → P → Request P → Done P
 judged before q =
     cond (q .unlisted) (refused 7 before)
@@ -135,7 +135,7 @@ judged before q =
     (cond (q .held) (refused 12 before)
     (record { refusal = 0; part = q .after; reply = q .reply }))))))
 
--- a refusal's ACK, 00 if accepted
+-- the ACK that tells a refusal; 0, accepted, is told by 00
 unfoldable pub ackOf : ℕ → ℕ
 ackOf n = cond (eqb n 0) 0x00 (cond (eqb n 7) 0x02 (cond (eqb n 10) 0x04 0x03))
 
@@ -157,7 +157,7 @@ pub record Out : Type 0 where
 abbrev pub silent : ℕ → Module → Out
 silent n m = record { refusal = n; after = m; reply = [] }
 
--- "Refusals 1 to 6 .. have length 0" and change nothing; 0 goes on
+-- a frame that one of 2 to 6 refuses changes nothing and is not answered; 0 goes on
 abbrev pub ifPasses : ℕ → Module → Out → Out
 ifPasses zero m o = o
 ifPasses (suc n) m o = silent (suc n) m

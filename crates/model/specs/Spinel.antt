@@ -56,11 +56,11 @@ spinelAsked q m =
 unfoldable pub spinelRequest : List ℕ → Module → SpinelRequest
 spinelRequest f m = record { permitted = m .spinel .permitted; toUniversal = eqb (spinelTo f) universal; signature = signatureOf f; instruction = instructionOf f; content = spinelData f }
 
--- "a permission for the next request on its port that passes 1 to 6": that request uses it up, accepted or not
+-- a request that 1 to 6 let through uses the port's permission up, accepted or not
 abbrev pub spinelUsed : Module → Module
 spinelUsed m = withSpinel m (permit false (m .spinel))
 
--- "Broadcasts draw no reply"
+-- nothing goes back to FF
 unfoldable pub spinelAnswered : ℕ → ℕ → ℕ → Done Module → Out
 spinelAnswered own to signature o = record {
   refusal = o .refusal;

@@ -51,11 +51,11 @@ freshOutput = output false 0
 abbrev pub freshPreset : Preset
 freshPreset = preset 0 0
 
--- "Fresh thermostats are 0"
+-- 01, Temperature: all its bytes 0, and so inactive
 abbrev pub freshThermostat : Thermostat
 freshThermostat = thermostat 0 (pos 0) (pos 0) 0 0
 
--- "Fresh: states, runs, modes, counters, outputs, presets and notice 0"; the sampling number 20; each port 31H and 6; no reading yet
+-- fresh (01): nothing is on, counted, set or read yet; the sampling number is 20, each port has the address 31H and the speed code 6
 unfoldable pub freshModule : Module
 freshModule = record {
   inputs = record { lines = replicate 16 freshLine; modes = replicate 16 0; counters = replicate 16 0; sampling = 20 };
@@ -107,6 +107,6 @@ withSpinel m p = record { inputs = m .inputs; outputs = m .outputs; presets = m 
 abbrev pub withModbus : Module → Port → Module
 withModbus m p = record { inputs = m .inputs; outputs = m .outputs; presets = m .presets; thermostats = m .thermostats; reading = m .reading; last = m .last; notice = m .notice; spinel = m .spinel; modbus = p }
 
--- permission (01): the next request on the port that passes 1 to 6 may configure it
+-- permission (01): whether the next frame that 1 to 6 let through may configure the port
 abbrev pub permit : Bool → Port → Port
 permit b p = port (p .address) (p .speed) b

@@ -32,17 +32,17 @@ unfoldable pub patternOf : ℤ → ℕ
 patternOf (pos n) = n
 patternOf (negsuc k) = 65535 - k
 
--- "The float is tenths divided by 10 in f32, rounded once"; 41200000H is 10
+-- the float: a sample's tenths and 10 are exact in f32, so that only the division rounds; 41200000H is 10
 unfoldable pub degrees : ℤ → Float
 degrees t = div binary32 (ofInt binary32 t) (ofBits binary32 0x4120_0000)
 
 -- The reading ------------------------------------------------------------------------------
 
--- "A bad mark, tenths outside -1,000 to 2,000 .. are a fault"; negsuc 999 is -1,000
+-- a sample is valid where it is marked good and from -100 to 200 degrees, else a fault; negsuc 999 is -1,000
 unfoldable pub readingOf : Bool → ℤ → Reading
 readingOf good t = cond (good && (leZ (negsuc 999) t && leZ t (pos 2000))) (Valid t (degrees t)) Fault
 
--- "51H (00 or 01): 01, 80H valid or 00, tenths"
+-- 51H: the thermometer's number, a byte that tells whether it is valid, and a word of tenths, 0 for a fault
 unfoldable pub readingShown : Reading → List ℕ
 readingShown (Valid t x) = 0x01 ∷ 0x80 ∷ bytes 2 (patternOf t)
 readingShown Fault = 0x01 ∷ 0x00 ∷ 0x00 ∷ 0x00 ∷ []
@@ -54,7 +54,7 @@ readTemperature d r p = refuse8 (not (eqb (length d) 1)) (refuse11 (not (leb (ge
 unfoldable pub floatBits : Float → ℕ
 floatBits x = cond (isNan x) 0 (toBits binary32 x)
 
--- "Input 0 to 3: status (0 valid, 1 fault), tenths, float (high word first)"; a fault: "status 1, rest 0"
+-- input registers 0 to 3: a valid reading has 0, its tenths and the float's two halves, the upper first; a fault has 1 and zeros
 unfoldable pub readingWords : Reading → List ℕ
 readingWords (Valid t x) = 0 ∷ patternOf t ∷ floatBits x / 65536 ∷ floatBits x % 65536 ∷ []
 readingWords Fault = 1 ∷ 0 ∷ 0 ∷ 0 ∷ []
@@ -74,7 +74,7 @@ onFall h = eqb (h .flags / 16 % 2) 1
 abbrev pub sensor : Thermostat → ℕ
 sensor h = h .flags % 16
 
--- "ERR 0 to 2"; "With F = 1: sensor 1, TEMPx at least TEMPy, TIME above 0 when SS is 10 or 11"
+-- what may be stored: ERR at most 2; an active one also needs the only sensor, TEMPy not over TEMPx, and a TIME other than 0 for pulses
 unfoldable pub thermostatFits : Thermostat → Bool
 thermostatFits h =
     leb (h .err) 2
@@ -83,7 +83,7 @@ thermostatFits h =
     && (leZ (h .tempy) (h .tempx)
     && (ltb (action h) 2 || not (eqb (h .time .0) 0)))))
 
--- a group: output, flags, TEMPx, TEMPy, TIME, ERR
+-- a group's eight bytes: 0 the output, 1 the flags, words at 2 and 4 for TEMPx and TEMPy, 6 TIME, 7 ERR
 unfoldable pub groupThermostat : List ℕ → Thermostat
 groupThermostat c = thermostat (getD c 1 0) (signedOf (wordAt c 2)) (signedOf (wordAt c 4)) (getD c 6 0) (getD c 7 0)
 
@@ -93,7 +93,7 @@ groupFits c = isNumber (getD c 0 0) && thermostatFits (groupThermostat c)
 unfoldable pub setGroup : List Thermostat → List ℕ → List Thermostat
 setGroup hs c = set hs (getD c 0 0 - 1) (groupThermostat c)
 
--- "1AH: 1 to 12 groups"
+-- 1AH: eight bytes for each thermostat
 unfoldable pub setThermostats : List ℕ → List Thermostat → Request (List Thermostat)
 setThermostats d hs = refuse8 (not (itemsOf 8 d)) (refuse11 (not (all groupFits (chunks 8 d))) (accepting (foldl setGroup hs (chunks 8 d)) []))
 
@@ -102,14 +102,14 @@ groupShown hs n =
     let h = getD hs (n - 1) freshThermostat in
     n ∷ h .flags ∷ bytes 2 (patternOf (h .tempx)) ++ bytes 2 (patternOf (h .tempy)) ++ h .time .0 ∷ h .err ∷ []
 
--- "1BH: no data or 1 to 12 outputs, same groups"
+-- 1BH: the groups of the outputs listed, or without data of the sixteen
 unfoldable pub readThermostats : {P : Type 0} → List ℕ → List Thermostat → P → Request P
 readThermostats d hs p =
     let ns = cond (eqb (length d) 0) everyNumber d in
     refuse8 (not (leb (length d) mostItems)) (refuse11 (not (all isNumber ns)) (accepting p (flatMap (groupShown hs) ns)))
 
--- 12: "With F = 1, 20H, 23H, 25H and writes of coils and registers 500 to 515 need, for that output, a valid reading now, from TEMPy
--- to TEMPx, ends included; else 12"
+-- 12: an active thermostat leaves its output to commands (20H, 23H, 25H, coils, registers 500 to 515) only while the reading is valid
+-- and in its band, neither under TEMPy nor over TEMPx
 unfoldable pub free : Reading → Thermostat → Bool
 free (Valid t x) h = not (active h) || (leZ (h .tempy) t && leZ t (h .tempx))
 free Fault h = not (active h)
@@ -120,22 +120,23 @@ freeAt r hs n = free r (getD hs (n - 1) freshThermostat)
 
 -- A temperature sample ----------------------------------------------------------------------
 
--- SS 00: "turns on above TEMPx, off below TEMPy; 01 the reverse"; each a set, which ends a pulse. Were TEMPx below TEMPy, above TEMPx
--- would go first.
+-- SS 00 and 01: outside the band the output is set, over TEMPx to `above` (on for 00, off for 01), under TEMPy to the opposite; a set ends
+-- a pulse. Were TEMPx below TEMPy, above TEMPx would go first.
 unfoldable pub levelled : Bool → Thermostat → ℤ → Output → Output
 levelled above h now o = cond (ltZ (h .tempx) now) (output above 0) (cond (ltZ now (h .tempy)) (output (not above) 0) o)
 
--- "when the last valid reading was at most TEMPx and this is above (K 0), or at least TEMPy and now below (K 1); the first valid reading of all starts none"
+-- has this reading passed TEMPx upward (K 0) or TEMPy downward (K 1), seen from the last valid one? where there was none yet, no
 unfoldable pub crossed : Thermostat → Reading → ℤ → Bool
 crossed h (Valid last x) now =
     cond (onFall h) (leZ (h .tempy) last && ltZ now (h .tempy)) (leZ last (h .tempx) && ltZ (h .tempx) now)
 crossed h Fault now = false
 
--- "10 starts an on pulse of TIME seconds, 11 an off pulse"; a TIME of 0, which no setting gives, would be a plain set
+-- SS 10 and 11: such a passing starts a pulse of TIME, on or off first; a TIME of 0, which no setting gives, would be a plain set
 unfoldable pub crossing : Bool → Thermostat → Reading → ℤ → Output → Output
 crossing on h last now o = cond (crossed h last now) (output on (secondSamples (h .time))) o
 
--- "At a valid sample, where F is 1": SS 00, 01, 10, 11. Another sensor than 1, which no setting gives, would act on the one reading.
+-- a valid sample, for one output: an active thermostat acts by its SS. Another sensor than 1, which no setting gives, would act on the one
+-- reading.
 unfoldable pub heated : Reading → ℤ → Thermostat → Output → Output
 heated last now h o =
     cond (not (active h)) o
@@ -143,7 +144,7 @@ heated last now h o =
     (cond (eqb (action h) 1) (levelled false h now o)
     (crossing (eqb (action h) 2) h last now o)))
 
--- "A fault sample, where F is 1, applies ERR: 0 nothing, 1 off, 2 on"; another ERR, which no setting gives, would do nothing
+-- a fault, for one output: with an active thermostat ERR 1 sets it off, ERR 2 on, ERR 0 leaves it; another, which no setting gives, would too
 unfoldable pub failed : Thermostat → Output → Output
 failed h o =
     cond (not (active h)) o

@@ -1,9 +1,9 @@
--- 01, Outputs and notice: "Half seconds for pulses and seconds for thermostats are separate counts of time."
+-- 01, Outputs and notice: a pulse's time and a thermostat's TIME have each a unit of its own, so that neither is taken for the other.
 use Prim.Native.Nat.{ℕ, _*_}
 use Rattle.model.specs.declared.HalfSeconds.{HalfSeconds}
 use Rattle.model.specs.declared.Seconds.{Seconds}
 
--- "A pulse lasts 500 samples for each half second, 1,000 for each second"
+-- the samples that such a time lasts, one each millisecond
 abbrev pub halfSecondSamples : HalfSeconds → ℕ
 halfSecondSamples t = t .0 * 500
 

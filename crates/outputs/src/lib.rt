@@ -41,7 +41,7 @@ pub fn start(on: bool, samples: u32) -> Output
     Output { on, left: samples }
 }
 
-// One output after one sample: at a pulse's last sample it turns opposite.
+// One output after one sample: the last one of its pulse inverts it.
 pub fn pulse(o: Output) -> Output
     ensures { λ r. ⌜ r ≡ pulsed o ⌝ }
 {
@@ -89,7 +89,7 @@ pub fn pulse_outputs(a: [Output; 16]) -> [Output; 16]
     a
 }
 
-// The remaining time in half seconds, rounded up, at most 255.
+// The remaining time of a pulse: the half seconds that have not ended, at most 255.
 pub fn remaining_time(left: u32) -> u8
     ensures { λ r. ⌜ r ≡ remaining left ⌝ }
 {

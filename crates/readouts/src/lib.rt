@@ -166,7 +166,7 @@ pub fn output_bits(os: [Output; 16]) -> u16
     bits
 }
 
-// 30H of the outputs' states, 31H of the inputs': two bytes. No data is named.
+// 30H of the outputs' states, 31H of the inputs': two bytes. The request has no data.
 pub fn read_states(d: &[u8], bits: u16) -> Told
     ensures { λ r. ⌜ r ≡ statesTold (now (d .entry)) bits ⌝ }
 {

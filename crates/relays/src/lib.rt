@@ -184,7 +184,7 @@ pub fn set_outputs(r: Reading, hs: [Thermostat; 16], d: &[u8], os: [Output; 16])
     answer(0, set_each(os, d))
 }
 
-// Pulses of one time, 1 to 255 half seconds.
+// Pulses of one time; 0 is refused.
 fn pulse_listed(
     time: HalfSeconds,
     r: Reading,

@@ -32,7 +32,7 @@ pub fn fits(h: Thermostat) -> bool
     (h.err <= 2) & ((h.flags < 128) | ((h.flags % 16 == 1) & limits))
 }
 
-// A group from place i on: output, flags, TEMPx, TEMPy, TIME, ERR.
+// The thermostat of the group of eight bytes from place i on.
 fn group_at(d: &[u8], i: usize) -> Thermostat
     requires { ⌜ i + 8 ≤ length (now d) ⌝ }
     ensures { λ r. ⌜ r ≡ groupThermostat (groupFrom (now (d .entry)) i) ⌝ }
@@ -98,7 +98,7 @@ fn set_groups(hs: [Thermostat; 16], d: &[u8]) -> [Thermostat; 16]
     next
 }
 
-// 1AH: 1 to 12 groups.
+// 1AH: from one to twelve groups.
 pub fn set_thermostats(d: &[u8], hs: [Thermostat; 16]) -> ThermostatsSet
     ensures { λ r. ⌜ r ≡ thermostatsSetOf (judged hs (setThermostats (now (d .entry)) hs)) ⌝ }
 {
@@ -120,7 +120,7 @@ pub fn set_thermostats(d: &[u8], hs: [Thermostat; 16]) -> ThermostatsSet
     }
 }
 
-// A group after a reply: output, flags, TEMPx, TEMPy, TIME, ERR.
+// A group after a reply, its eight bytes in turn.
 fn show_settings(reply: Data, n: u8, h: Thermostat) -> Data
     ensures { λ r. ⌜ r ≡ extended reply (settingsShown n h) ⌝ }
 {
@@ -174,7 +174,7 @@ fn show_groups(hs: [Thermostat; 16], d: &[u8]) -> Data
     reply
 }
 
-// 1BH: the groups of 1 to 12 outputs, or without data of all.
+// 1BH: the groups of the outputs listed, or without data of all.
 pub fn read_thermostats(d: &[u8], hs: [Thermostat; 16]) -> Told
     ensures { λ r. ⌜ r ≡ toldOf (judged hs (readThermostats (now (d .entry)) hs hs)) ⌝ }
 {

@@ -70,7 +70,7 @@ fn reset_inputs(x: Inputs) -> Inputs
     next
 }
 
-// A reset zeroes counters, runs, outputs and pulses, and ends both permissions.
+// A reset: outputs off, no pulse, counter or run left, no port permitted; all else stays.
 pub fn reset_state(m: Module) -> Module
     ensures { λ r. ⌜ r ≡ reset m ⌝ }
 {

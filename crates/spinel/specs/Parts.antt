@@ -10,7 +10,7 @@ use Rattle.model.specs.Refusals.{ackOf}
 use Rattle.answers.specs.declared.Served.{Served}
 use Rattle.answers.specs.declared.Handled.{Handled}
 
--- "Broadcasts draw no reply"; the reply has the module's own address, whatever the request's
+-- nothing goes back to FF; any other reply bears the module's own address, whatever the request's
 abbrev pub answeredTo : ℕ → ℕ → ℕ → Served → Handled
 answeredTo own to signature s = record {
   refusal = s .refusal;

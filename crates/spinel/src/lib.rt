@@ -250,7 +250,7 @@ fn read_port(m: Module, d: &[u8]) -> Served
     answers::told(m, settings::read_port(d, m.spinel))
 }
 
-// The instruction byte: each arm one small function.
+// The instruction byte picks the function above that answers.
 fn serve(
     m: Module,
     permitted: bool,

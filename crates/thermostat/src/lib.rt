@@ -8,7 +8,7 @@ use model::Output;
 use model::Reading;
 use model::Thermostat;
 
-// A sample's reading: a good mark and tenths from -1,000 to 2,000, else a fault.
+// A sample's reading: valid where it is marked good and from -100 to 200 degrees, else a fault.
 pub fn reading_of(good: bool, tenths: i16) -> Reading
     ensures { λ r. ⌜ r ≡ readingOf good tenths ⌝ }
 {
@@ -58,7 +58,7 @@ fn crossed_limit(h: Thermostat, last: Reading, now: i16) -> bool
     rose(h.tempx, t, now)
 }
 
-// SS 10 (`on` is true) and 11 (`on` is false): a crossing starts a pulse of TIME seconds.
+// SS 10 (`on` is true) and 11 (`on` is false): a crossing starts a pulse, which lasts TIME.
 fn cross(on: bool, h: Thermostat, last: Reading, now: i16, o: Output) -> Output
     ensures { λ r. ⌜ r ≡ crossing on h last now o ⌝ }
 {
@@ -83,7 +83,7 @@ fn heat(last: Reading, now: i16, h: Thermostat, o: Output) -> Output
     }
 }
 
-// One output at a fault sample: ERR 0 nothing, 1 off, 2 on.
+// One output at a fault sample: ERR 1 sets it off, ERR 2 on, any other leaves it.
 fn fail(h: Thermostat, o: Output) -> Output
     ensures { λ r. ⌜ r ≡ failed h o ⌝ }
 {

@@ -3,16 +3,13 @@ use Rattle.model.specs.Samples.{counted}
 use Rattle.inputs.proofs.count.Statement.{statement}
 use Rattle.inputs.proofs.count.Tie as tie
 
--- src/lib.rt:80:9
 wrapping-add-u16-requires : tie.Need-wrapping-add-u16-requires
 wrapping-add-u16-requires c κs = search needs
 
--- src/lib.rt:80:9
 returns : tie.Need-returns
 unfolding counted
 returns c = rw (c .wrapping-add-u16 .ensures, c .before .if1 .taken)
 
--- src/lib.rt:76:1
 returns-2 : tie.Need-returns-2
 unfolding counted
 returns-2 c = rw (c .if1 .left)

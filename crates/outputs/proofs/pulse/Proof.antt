@@ -4,31 +4,25 @@ use Rattle.model.specs.Outputs.{pulsed}
 use Rattle.outputs.proofs.pulse.Statement.{statement}
 use Rattle.outputs.proofs.pulse.Tie as tie
 
--- src/lib.rt:51:9
 returns : tie.Need-returns
 unfolding pulsed
 returns c = simp (eq-eqb _ _ (c .if1 .taken))
 
--- src/lib.rt:54:9
 set-requires : tie.Need-set-requires
 set-requires c κs = search needs
 
--- src/lib.rt:54:9
 returns-2 : tie.Need-returns-2
 unfolding pulsed
 returns-2 c =
     let at = c .before .before in
     rw (c .set .ensures, ne-eqb _ _ (at .before .if1 .left), eq-eqb _ _ (at .if2 .taken))
 
--- src/lib.rt:56:17
 sub-start : tie.Need-sub-start
 sub-start c = search needs
 
--- src/lib.rt:56:5
 start-requires : tie.Need-start-requires
 start-requires c κs = search needs
 
--- src/lib.rt:46:1
 returns-3 : tie.Need-returns-3
 unfolding pulsed
 returns-3 c = rw (c .start .ensures, ne-eqb _ _ (c .before .before .if1 .left), ne-eqb _ _ (c .before .if2 .left))

@@ -6,22 +6,18 @@ use Rattle.model.specs.Outputs.{remaining}
 use Rattle.outputs.proofs.remaining_time.Statement.{statement}
 use Rattle.outputs.proofs.remaining_time.Tie as tie
 
--- src/lib.rt:64:9
 returns : tie.Need-returns
 unfolding remaining
 returns c =
     let more : 255 < (c .before .args .left + 499) / 500 = omega arith in
     rw (lt-ltb 255 ((c .before .args .left + 499) / 500) more)
 
--- src/lib.rt:66:7
 add-result : tie.Need-add-result
 add-result c = search needs
 
--- src/lib.rt:66:5
 cast-result : tie.Need-cast-result
 cast-result c = search needs
 
--- src/lib.rt:60:1
 returns-2 : tie.Need-returns-2
 unfolding remaining
 returns-2 c =
