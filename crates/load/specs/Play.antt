@@ -1,10 +1,11 @@
 -- Runs of generated samples.
 use Prim.Native.Nat.{ℕ, zero, suc, _+_, _*_, _/_, _%_, _^_}
 use mathlib.Core.Bool.{Bool, true, cond}
-use mathlib.Core.List.{_++_}
+use mathlib.Core.List.{List, _++_}
 use lib.Bits.{bitXor}
 use lib.Dec.{eqb}
 use lib.ListN.{length, replicate}
+use Rattle.lists.specs.Data.{over}
 use Rattle.model.specs.State.{freshModule, output, notice, withInputs, withOutputs, withNotice}
 use Rattle.model.specs.Calls.{sampleCall}
 use Rattle.load.specs.declared.Source.{Source}
@@ -28,7 +29,7 @@ noisyNext s = record { seed = nextSeed (s .seed); level = nextSeed (s .seed) / 3
 unfoldable pub sourceNext : Bool → Source → Source
 sourceNext noisy s = cond noisy (noisyNext s) (typicalNext s)
 
--- one sample more: the state after it, and the bytes of its reply added up modulo 2 to the 64
+-- one sample more: the state after it, and how many bytes the notices had so far, modulo 2 to the 64
 unfoldable pub playOne : ℕ → Bool → Played → Played
 playOne room noisy p =
     let s = sourceNext noisy (p .source) in
@@ -38,10 +39,19 @@ playOne room noisy p =
       written = (p .written + length (sampleCall room (s .level) (p .after) .reply)) % 2 ^ 64;
     }
 
+-- the lent buffer after it: its notice over what stood there
+unfoldable pub bufferOne : ℕ → Bool → Played → List ℕ → List ℕ
+bufferOne room noisy p old = over (sampleCall room (sourceNext noisy (p .source) .level) (p .after) .reply) old
+
 -- n of them
 unfoldable pub playMany : ℕ → Bool → ℕ → Played → Played
 playMany room noisy zero p = p
 playMany room noisy (suc n) p = playOne room noisy (playMany room noisy n p)
+
+-- the lent buffer after them: each notice over what the samples before it left
+unfoldable pub bufferMany : ℕ → Bool → ℕ → Played → List ℕ → List ℕ
+bufferMany room noisy zero p old = old
+bufferMany room noisy (suc n) p old = bufferOne room noisy (playMany room noisy n p) (bufferMany room noisy n p old)
 
 -- both edges counted, the notice on for all inputs; the first four outputs pulse, the others for `rest` samples
 unfoldable pub startOf : ℕ → ℕ → Played

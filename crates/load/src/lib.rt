@@ -1,7 +1,7 @@
 // Runs of generated samples, typical and full load: their outcome is checked, and they are timed.
 ghost use mathlib.Core.Path.{_≡_};
 ghost use lib.ListN.{length};
-ghost use Rattle.load.specs.Play.{nextSeed, typicalNext, noisyNext, sourceNext, playOne, playMany, startOf};
+ghost use Rattle.load.specs.Play.{nextSeed, typicalNext, noisyNext, sourceNext, playOne, bufferOne, playMany, bufferMany, startOf};
 use model::Module;
 use model::Notice;
 use model::Output;
@@ -68,6 +68,7 @@ fn source_next(noisy: bool, s: Source) -> Source
 // One sample more.
 fn play_one(noisy: bool, p: Played, reply: &mut [u8]) -> Played
     ensures { λ r. ⌜ r ≡ playOne (length (now (reply .entry))) noisy p ⌝ }
+    ensures { λ _. ⌜ now (reply .exit) ≡ bufferOne (length (now (reply .entry))) noisy p (now (reply .entry)) ⌝ }
 {
     let m = p.after;
     let last = p.source;
@@ -84,6 +85,7 @@ fn play_one(noisy: bool, p: Played, reply: &mut [u8]) -> Played
 // n samples, one after another.
 pub fn play(noisy: bool, n: u32, p: Played, reply: &mut [u8]) -> Played
     ensures { λ r. ⌜ r ≡ playMany (length (now (reply .entry))) noisy n p ⌝ }
+    ensures { λ _. ⌜ now (reply .exit) ≡ bufferMany (length (now (reply .entry))) noisy n p (now (reply .entry)) ⌝ }
 {
     let mut q = p;
     let mut i = 0;
@@ -139,6 +141,7 @@ pub fn start(sampling: u8, rest: u32) -> Played
 #[no_mangle]
 pub extern "C" fn load_play(noisy: bool, n: u32, sampling: u8, rest: u32, reply: &mut [u8]) -> u64
     ensures { λ r. ⌜ r ≡ playMany (length (now (reply .entry))) noisy n (startOf sampling rest) .written ⌝ }
+    ensures { λ _. ⌜ now (reply .exit) ≡ bufferMany (length (now (reply .entry))) noisy n (startOf sampling rest) (now (reply .entry)) ⌝ }
 {
     let p = play(noisy, n, start(sampling, rest), reply);
     p.written

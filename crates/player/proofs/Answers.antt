@@ -1,7 +1,7 @@
 -- From a call's answer to its text, and a line's samples one by one. Assumes nothing.
 use Prim.Native.Nat.{ℕ, zero, suc, _-_, _<_, _≤_}
 use native.Mathlib.Omega.{arith}
-use mathlib.Core.Path.{_≡_, ap, _∙_}
+use mathlib.Core.Path.{_≡_, refl, ap, _∙_}
 use mathlib.Core.List.{List}
 use lib.ListN.{length, take, replicate, length-append, length-take}
 use lib.Seq.{take-append-seam}
@@ -29,23 +29,25 @@ module _ {o : Out} {a : Answer} {old new : List ℕ} (p : Answered o a old new) 
   reply-shown : take (a .len) new ≡ o .reply
   reply-shown = rw (length-reply, p .buffer) (take-append-seam (o .reply) _)
 
-  pub frame-told : {n : ℕ} {was out : List ℕ} → Appended 0 (answerText (a .refusal) (take (a .len) new)) n was out → Told o (frameText o) (record { after = a .after; len = n }) out
+  pub frame-told : {n : ℕ} {was out : List ℕ} → Appended 0 (answerText (a .refusal) (take (a .len) new)) n was out → Told o (frameText o) (record { after = a .after; len = n }) was out
   frame-told {n} {was} {out} q = record {
     after = ap (λ (x : Answer). x .after) (p .answer);
     fits = appended-fits q;
     shown = q .text ∙ rw (reply-shown, ap (λ (x : Answer). x .refusal) (p .answer));
+    rest = q .rest;
   }
 
-  pub notice-told : {n : ℕ} {was out : List ℕ} → (a .len ≡ 0 → ⊥) → Appended 0 (answerText (a .refusal) (take (a .len) new)) n was out → Told o (noticeText o) (record { after = a .after; len = n }) out
+  pub notice-told : {n : ℕ} {was out : List ℕ} → (a .len ≡ 0 → ⊥) → Appended 0 (answerText (a .refusal) (take (a .len) new)) n was out → Told o (noticeText o) (record { after = a .after; len = n }) was out
   unfolding noticeText
   notice-told h q = rw (ne-eqb (length (o .reply)) 0 (rw length-reply at h)) (frame-told q)
 
-  pub notice-none : (out : List ℕ) → a .len ≡ 0 → Told o (noticeText o) (record { after = a .after; len = 0 }) out
+  pub notice-none : (out : List ℕ) → a .len ≡ 0 → Told o (noticeText o) (record { after = a .after; len = 0 }) out out
   unfolding noticeText
   notice-none out h = record {
     after = ap (λ (x : Answer). x .after) (p .answer);
     fits = omega arith;
     shown = rw (eq-eqb (length (o .reply)) 0 (rw length-reply at h));
+    rest = refl;
   }
 
 -- one sample of several

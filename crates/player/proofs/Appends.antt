@@ -2,21 +2,32 @@
 use Prim.Native.Nat.{ℕ, _+_, _*_, _/_, _%_, _<_, _≤_}
 use native.Mathlib.Omega.{arith}
 use native.Mathlib.Numerals.{add-one}
-use mathlib.Core.Path.{_≡_, refl, _∙_}
+use mathlib.Core.Path.{_≡_, refl, sym, _∙_}
 use mathlib.Core.List.{List, [], _∷_, _++_, append-assoc, append-nil}
 use mathlib.Core.Bool.{Bool, true, false, cond}
 use lib.Dec.{ltb}
 use lib.ListN.{length, take, drop, getD, set, length-append, drop-of-length-le}
-use lib.Seq.{take-suc-set}
+use lib.Seq.{take-suc-set, drop-set-lt, drop-drop}
 use Rattle.lists.proofs.ChunkLaws.{rest-first}
 use Rattle.player.specs.Texts.{byteText, bytesText, numberText, Appended}
 
 pub push-appends : (out : List ℕ) (at b : ℕ) → at < length out → Appended at (b ∷ []) (at + 1) out (set out at b)
-push-appends out at b h = record { stop = refl; text = rw add-one (take-suc-set out at b h) }
+push-appends out at b h = record {
+  stop = refl;
+  text = rw add-one (take-suc-set out at b h);
+  rest = drop-set-lt (at + 1) out at b (omega arith);
+}
+
+-- bytes that were as in `a` beyond r are so beyond what was written at r
+pub beyond : {r s : ℕ} {ys b c : List ℕ} (a : List ℕ) → Appended r ys s b c → drop r b ≡ drop r a → drop s c ≡ drop s a
+beyond {r} {s} {ys} {b} {c} a q e = q .rest ∙ rw (q .stop) (sym (drop-drop (length ys) r b) ∙ rw e (drop-drop (length ys) r a))
 
 pub joined : {at r s : ℕ} {xs ys a b c : List ℕ} → Appended at xs r a b → Appended r ys s b c → Appended at (xs ++ ys) s a c
-joined {at} {r} {s} {xs} {ys} {a} {b} {c} p q =
-    record { stop = rw length-append (omega arith); text = q .text ∙ rw (p .text) (append-assoc (take at a) xs ys) }
+joined {at} {r} {s} {xs} {ys} {a} {b} {c} p q = record {
+  stop = rw length-append (omega arith);
+  text = q .text ∙ rw (p .text) (append-assoc (take at a) xs ys);
+  rest = beyond a q (p .rest);
+}
 
 pub length-bytesText : (l : List ℕ) → length (bytesText l) ≡ 3 * length l
 unfolding bytesText byteText
@@ -44,9 +55,10 @@ module _ (l : List ℕ) (i to : ℕ) (out : List ℕ) where
   bytes-goes {r} {new} h p =
       rw (p .text, rest-first l i h) (append-assoc (take to out) (byteText (getD l i 0)) (bytesText (drop (i + 1) l)))
 
-  pub bytes-end : (at : ℕ) (old : List ℕ) → i ≡ length l → to ≡ at + 3 * i → take to out ++ bytesText (drop i l) ≡ take at old ++ bytesText l → Appended at (bytesText l) to old out
+  pub bytes-end : (at : ℕ) (old : List ℕ) → i ≡ length l → to ≡ at + 3 * i → take to out ++ bytesText (drop i l) ≡ take at old ++ bytesText l → drop to out ≡ drop to old → Appended at (bytesText l) to old out
   unfolding bytesText
-  bytes-end at old h e q = record {
+  bytes-end at old h e q f = record {
     stop = omega (arith, length-bytesText l);
     text = simp (drop-of-length-le l {i = i} (omega arith), append-nil) at q;
+    rest = f;
   }

@@ -4,7 +4,7 @@ use mathlib.Core.Bool.{cond}
 use mathlib.Core.List.{List, [], _∷_, _++_}
 use mathlib.Core.Path.{_≡_}
 use lib.Dec.{ltb, eqb}
-use lib.ListN.{length, take}
+use lib.ListN.{length, take, drop}
 use Rattle.model.specs.Refusals.{Out}
 use Rattle.player.specs.declared.Played.{Played}
 
@@ -36,13 +36,15 @@ frameText o = answerText (o .refusal) (o .reply)
 unfoldable pub noticeText : Out → List ℕ
 noticeText o = cond (eqb (length (o .reply)) 0) [] (frameText o)
 
--- bs was written behind the first `at` bytes, and ends at r
+-- bs was written behind the first `at` bytes, and ends at r; bytes beyond are as they were
 pub record Appended (at : ℕ) (bs : List ℕ) (r : ℕ) (old new : List ℕ) : Type 0 where
   pub stop : r ≡ at + length bs
   pub text : take r new ≡ take at old ++ bs
+  pub rest : drop r new ≡ drop r old
 
--- the state after a call, and its text in the first bytes of a buffer
-pub record Told (o : Out) (text : List ℕ) (r : Played) (new : List ℕ) : Type 0 where
+-- the state after a call, and its text in the first bytes of a buffer; bytes beyond are as they were
+pub record Told (o : Out) (text : List ℕ) (r : Played) (old new : List ℕ) : Type 0 where
   pub after : r .after ≡ o .after
   pub fits : r .len ≤ length new
   pub shown : take (r .len) new ≡ text
+  pub rest : drop (r .len) new ≡ drop (r .len) old

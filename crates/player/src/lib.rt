@@ -100,7 +100,7 @@ fn answer_text(out: &mut [u8], refusal: u8, reply: &[u8]) -> usize
 // One sample, and the line of its notice.
 fn sample_text(m: Module, bits: u16, out: &mut [u8]) -> Played
     requires { ⌜ 772 ≤ length (now out) ⌝ }
-    ensures { λ r. ⌜ Told (sampleCall 256 bits m) (noticeText (sampleCall 256 bits m)) r (now (out .exit)) ⌝ }
+    ensures { λ r. ⌜ Told (sampleCall 256 bits m) (noticeText (sampleCall 256 bits m)) r (now (out .entry)) (now (out .exit)) ⌝ }
 {
     let mut reply = [0u8; 256];
     let a = iomodule::sample(m, bits, &mut reply);
@@ -126,7 +126,7 @@ fn frame_call(m: Module, modbus: bool, frame: &[u8], reply: &mut [u8]) -> Answer
 // One frame, and the line of its answer.
 fn frame_text(m: Module, modbus: bool, frame: &[u8], out: &mut [u8]) -> Played
     requires { ⌜ 772 ≤ length (now out) ⌝ }
-    ensures { λ r. ⌜ Told (frameCall modbus 256 (now (frame .entry)) m) (frameText (frameCall modbus 256 (now (frame .entry)) m)) r (now (out .exit)) ⌝ }
+    ensures { λ r. ⌜ Told (frameCall modbus 256 (now (frame .entry)) m) (frameText (frameCall modbus 256 (now (frame .entry)) m)) r (now (out .entry)) (now (out .exit)) ⌝ }
 {
     let mut reply = [0u8; 256];
     let a = frame_call(m, modbus, frame, &mut reply);

@@ -2,6 +2,7 @@
 ghost use mathlib.Core.Path.{_≡_};
 ghost use Prim.Native.Nat.{_≤_};
 ghost use lib.ListN.{length};
+ghost use Rattle.lists.specs.Data.{over};
 ghost use Rattle.model.specs.Calls.{acted, run, Answered};
 ghost use Rattle.short_buffers.specs.Tries.{keptOf, actOf, tried};
 use libc::STDOUT_FILENO;
@@ -91,6 +92,7 @@ fn print_line(room: usize, refusal: u8, reply: &[u8], same: usize) {
 // The state after a call on a buffer filled with EE, its line printed.
 fn told(m: Module, kind: Kind, frame: &[u8], reply: &mut [u8]) -> Module
     ensures { λ r. ⌜ r ≡ acted (length (now (reply .entry))) (actOf kind (now (frame .entry))) m .after ⌝ }
+    ensures { λ _. ⌜ now (reply .exit) ≡ over (acted (length (now (reply .entry))) (actOf kind (now (frame .entry))) m .reply) (now (reply .entry)) ⌝ }
 {
     let a = make(m, kind, frame, reply);
     let len = a.len;

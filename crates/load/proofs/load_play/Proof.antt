@@ -13,7 +13,10 @@ same-length : tie.Need-same-length
 same-length c = search needs
 
 returns : tie.Need-returns
-returns c = rw (c .before .before .play .ensures, c .before .before .before .before .start .ensures)
+returns c =
+    let done = c .before .before in
+    let made = done .before .before in
+    (rw (done .play .ensures .0, made .start .ensures), rw (done .play .ensures .1, made .start .ensures))
 
 pub load-play-spec : {M : Type 1} → statement M
 load-play-spec = tie.close (tie.spec start-requires play-requires same-length returns)

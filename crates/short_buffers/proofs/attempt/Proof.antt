@@ -21,7 +21,7 @@ told-requires c κs = search needs
 returns : tie.Need-returns
 returns c =
     let s = c .before .before .before .before in
-    first-bytes (s .args .room) (replicate 256 0xEE) (actOf (s .args .kind) (now (s .args .frame))) (s .args .m) _ (s .pre) (c .before .told .ensures)
+    first-bytes (s .args .room) (replicate 256 0xEE) (actOf (s .args .kind) (now (s .args .frame))) (s .args .m) _ (s .pre) (c .before .told .ensures .0)
 
 pub attempt-spec : {M : Type 1} → statement M
 attempt-spec =

@@ -38,7 +38,9 @@ same-length : tie.Need-same-length
 same-length c = search needs
 
 returns : tie.Need-returns
-returns c = rw (c .before .before .before .before .before .before .before .before .before .make .ensures .answer)
+returns c =
+    let made = c .before .before .before .before .before .before .before .before .before .make .ensures in
+    (rw (made .answer), made .buffer)
 
 pub told-spec : {M : Type 1} → statement M
 told-spec =
