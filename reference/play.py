@@ -1,38 +1,148 @@
 #!/usr/bin/env python3
-"""Plays scripts of calls on the reference and prints each answer: the refusal's number, then the reply's bytes.
+"""Plays scripts of calls on the reference, each on a fresh module, and prints what the rack prints for them.
 
-Usage: reference/play.py SCRIPT ..    Lines: sample HHHH [N], temperature T or fault, spinel B .., modbus B .., # comment.
+Usage: reference/play.py SCRIPT ..
+
+For each frame, and for each sample that writes a notice: the refusal's number (0: accepted) and the reply's bytes. For a line that is
+no call: its number and what is wrong; the rest is still played. The exit status is 1 if a line was wrong or a script too long, 2 for
+bad usage or a script that cannot be read. The format is the one of ./rack --help; the rules are crates/script/specs.
 """
+import collections
+import re
 import sys
 
 sys.dont_write_bytecode = True
 import module
 
+LIMIT = 262144  # bytes of a script
+LONGEST = 300  # bytes of a frame
+CALLS = "expected sample HHHH, sample HHHH N, temperature T or temperature fault"
+UNKNOWN = "unknown word: expected sample, temperature, spinel or modbus"
+MISSING = "missing word: " + CALLS
+TOO_MANY = "too many words: " + CALLS
+BAD_HEX = "bad hex: expected four hex digits after sample, two hex digits for each byte of a frame"
+BAD_NUMBER = "bad number: expected 1 to 65535 samples, a temperature of -32768 to 32767 tenths, or fault"
+TOO_LONG = "frame too long: expected at most 300 bytes"
 
-def show(answer):
-    refusal, reply = answer
-    print(" ".join([str(refusal)] + ["%02X" % b for b in reply]))
+# What is printed: the number of the script's line, "frame", "notice" or "wrong", and the text.
+Printed = collections.namedtuple("Printed", "line kind text")
 
 
-def play(m, words):
-    call, rest = words[0], words[1:]
-    if call == "sample":
-        for _ in range(int(rest[1]) if len(rest) > 1 else 1):
-            answer = m.sample(int(rest[0], 16))
-            if answer[1]:
-                show(answer)
-    elif call == "temperature":
-        good = rest[0] != "fault"
-        m.temperature(good, int(rest[0]) if good else 0)
-    elif call in ("spinel", "modbus"):
-        show(getattr(m, call)([int(b, 16) for b in rest]))
+class Wrong(Exception):
+    """A line that is no call, and why."""
+
+
+def words(line):
+    """The words of a line: a CR at its end and a comment are left out; spaces and tabs stand between words."""
+    plain = line[:-1] if line.endswith(b"\r") else line
+    return re.findall(rb"[^ \t]+", plain.split(b"#")[0])
+
+
+def hexadecimal(word, digits):
+    """A number of exactly so many hex digits, in capitals or not."""
+    if not re.fullmatch(rb"[0-9A-Fa-f]+", word) or len(word) != digits:
+        raise Wrong(BAD_HEX)
+    return int(word, 16)
+
+
+def decimal(word, least, most):
+    """A decimal number without a sign; zeros may stand before it."""
+    digits = word.lstrip(b"0") or word[:1]
+    if not re.fullmatch(rb"[0-9]{1,5}", digits) or not least <= int(digits) <= most:
+        raise Wrong(BAD_NUMBER)
+    return int(digits)
+
+
+def tenths(word):
+    """A temperature, with a sign or without."""
+    if word[:1] == b"-":
+        return -decimal(word[1:], 0, 32768)
+    return decimal(word[1:] if word[:1] == b"+" else word, 0, 32767)
+
+
+def sample(rest):
+    """The bits, and how many times."""
+    if not rest:
+        raise Wrong(MISSING)
+    if len(rest) > 2:
+        raise Wrong(TOO_MANY)
+    bits = hexadecimal(rest[0], 4)
+    return bits, decimal(rest[1], 1, 65535) if len(rest) == 2 else 1
+
+
+def temperature(rest):
+    """Whether the sample is good, and its tenths."""
+    if not rest:
+        raise Wrong(MISSING)
+    if len(rest) > 1:
+        raise Wrong(TOO_MANY)
+    return (False, 0) if rest[0] == b"fault" else (True, tenths(rest[0]))
+
+
+def frame(rest):
+    """The bytes of a frame, judged from left to right; none is a frame of 0 bytes."""
+    data = [hexadecimal(word, 2) for word in rest[:LONGEST]]
+    if len(rest) > LONGEST:
+        raise Wrong(TOO_LONG)
+    return data
+
+
+def answer(number, kind, answered):
+    """The line of an answer."""
+    refusal, reply = answered
+    return Printed(number, kind, " ".join([str(refusal)] + ["%02X" % byte for byte in reply]))
+
+
+def call(m, number, first, rest):
+    """Makes the calls of a line and yields what is printed of them."""
+    if first == b"sample":
+        bits, times = sample(rest)
+        for _ in range(times):
+            answered = m.sample(bits)
+            if answered[1]:
+                yield answer(number, "notice", answered)
+    elif first == b"temperature":
+        m.temperature(*temperature(rest))
+    elif first == b"spinel":
+        yield answer(number, "frame", m.spinel(frame(rest)))
+    elif first == b"modbus":
+        yield answer(number, "frame", m.modbus(frame(rest)))
     else:
-        sys.exit("no such call: " + call)
+        raise Wrong(UNKNOWN)
 
 
-for path in sys.argv[1:]:
-    fresh = module.Module()
-    for line in open(path, encoding="ascii"):
-        words = line.split("#")[0].split()
-        if words:
-            play(fresh, words)
+def play(script):
+    """Yields all that is printed of a script, given as bytes."""
+    if len(script) > LIMIT:
+        yield Printed(0, "wrong", "script is longer than 262144 bytes; nothing was played")
+        return
+    m = module.Module()
+    for number, line in enumerate(script.split(b"\n"), 1):
+        try:
+            if words(line):
+                yield from call(m, number, words(line)[0], words(line)[1:])
+        except Wrong as wrong:
+            yield Printed(number, "wrong", "line %d: %s" % (number, wrong))
+
+
+def main(paths):
+    """Plays each file and answers the exit status."""
+    if not paths:
+        print("usage: reference/play.py SCRIPT ..", file=sys.stderr)
+        return 2
+    status = 0
+    for path in paths:
+        try:
+            script = open(path, "rb").read()
+        except OSError as error:
+            print("play.py: %s: %s" % (path, error.strerror), file=sys.stderr)
+            return 2
+        for printed in play(script):
+            print(printed.text)
+            if printed.kind == "wrong":
+                status = 1
+    return status
+
+
+if __name__ == "__main__":
+    sys.exit(main(sys.argv[1:]))
