@@ -34,7 +34,7 @@ pub struct PresetsSet {
 
 // By number ------------------------------------------------------------------------------
 
-// The preset of a number, a fresh one where there is none.
+// The preset of a number; 0, which is refused before, is taken for 1, and behind the last stands a fresh one.
 pub fn preset_at(ps: [Preset; 16], n: u8) -> Preset
     ensures { λ r. ⌜ r ≡ presetOf ps n ⌝ }
 {
@@ -49,7 +49,7 @@ pub fn preset_at(ps: [Preset; 16], n: u8) -> Preset
     }
 }
 
-// The thermostat of a number, a fresh one where there is none.
+// The thermostat of a number, taken in the same way.
 pub fn thermostat_at(hs: [Thermostat; 16], n: u8) -> Thermostat
     ensures { λ r. ⌜ r ≡ getD hs (n - 1) freshThermostat ⌝ }
 {

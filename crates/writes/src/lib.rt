@@ -196,7 +196,7 @@ pub fn write_modes(a: u16, d: &[u8], ms: [u8; 16]) -> Moded
     modes_from(first, d, ms)
 }
 
-// The counter of an input cleared, where the number has one.
+// Counter n cleared; 0, which no register gives, is taken for 1, and behind the last there is none.
 fn clear_at(cs: [u16; 16], n: usize) -> [u16; 16]
     ensures { λ r. ⌜ r ≡ set cs (n - 1) 0 ⌝ }
 {

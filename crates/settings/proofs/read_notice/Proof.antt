@@ -30,7 +30,7 @@ returns-2 : tie.Need-returns-2
 unfolding judged readNotice
 returns-2 c =
     let at = c .before .before .before .before in
-    rw (eq-eqb _ _ (at .if1 .left), c .tell .ensures, c .before .push16 .ensures, c .before .before .push .ensures, c .before .before .before .empty .ensures, byte-and-word (at .before .before .args .n .format) (at .before .before .args .n .mask))
+    rw (eq-eqb _ _ (at .if1 .left), c .tell .ensures, c .before .push16 .ensures, c .before .before .push .ensures, c .before .before .before .empty .ensures, byte-and-word)
 
 pub read-notice-spec : {M : Type 1} → statement M
 read-notice-spec =

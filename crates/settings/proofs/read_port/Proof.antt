@@ -30,7 +30,7 @@ returns-2 : tie.Need-returns-2
 unfolding judged readPort
 returns-2 c =
     let at = c .before .before .before .before in
-    rw (eq-eqb _ _ (at .if1 .left), c .tell .ensures, c .before .push2 .ensures, c .before .before .push .ensures, c .before .before .before .empty .ensures, two-bytes (at .before .before .args .p .address) (at .before .before .args .p .speed))
+    rw (eq-eqb _ _ (at .if1 .left), c .tell .ensures, c .before .push2 .ensures, c .before .before .push .ensures, c .before .before .before .empty .ensures, two-bytes)
 
 pub read-port-spec : {M : Type 1} → statement M
 read-port-spec =
