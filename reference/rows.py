@@ -1,7 +1,7 @@
 """The closed cases that the tables of crates/model/proofs hold the definitions to: lists of calls, written from document 01.
 
-A case is a name, what it shows, the state it starts from, and its calls. What the calls answer is worked out by module.py; only the cases
-A to J of the rack and the tally's numbers are typed here. tables.py writes the cases as antt; sweep plays them on changed definitions.
+A case is a name, what it shows, the state it starts from, and its calls. What the calls answer is worked out by module.py; typed here are
+the cases A to J of the rack, cases that do not start from a fresh module, the tally's numbers, and the rows about claims. tables.py writes the cases as antt; sweep plays them on changed definitions.
 """
 import sys
 
@@ -127,7 +127,7 @@ def play(calls):
 
 
 def case(name, shows, *calls, answers=None, start="freshModule"):
-    """Calls may be lists of calls. Answers are typed only for A to J."""
+    """Calls may be lists of calls. Answers are typed for A to J, and where the case starts from another state than a fresh module."""
     flat = [c for x in calls for c in (x if isinstance(x, list) else [x])]
     return name, shows, start, flat, answers
 
