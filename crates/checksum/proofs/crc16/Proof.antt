@@ -20,18 +20,6 @@ loop-holds : tie.Need-loop-holds Inv-loop μ-loop
 unfolding crcOf
 loop-holds c = (omega arith, refl)
 
-shared-slice-read-crc-byte : tie.Need-shared-slice-read-crc-byte Inv-loop μ-loop
-shared-slice-read-crc-byte c = search needs
-
-crc-byte-requires : tie.Need-crc-byte-requires Inv-loop μ-loop
-crc-byte-requires c κs = search needs
-
-add-i : tie.Need-add-i Inv-loop μ-loop
-add-i c = search needs
-
-loop-less : tie.Need-loop-less Inv-loop μ-loop
-loop-less c = search needs
-
 loop-again : tie.Need-loop-again Inv-loop μ-loop
 loop-again c =
     let head = c .before .before .before in
@@ -51,9 +39,9 @@ crc16-spec =
     Inv-loop
     μ-loop
     loop-holds
-    shared-slice-read-crc-byte
-    crc-byte-requires
-    add-i
-    loop-less
+    (λ c. search needs)
+    (λ c κs. tt)
+    (λ c. search needs)
+    (λ c. search needs)
     loop-again
     returns)

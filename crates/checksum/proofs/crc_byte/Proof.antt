@@ -18,15 +18,6 @@ loop-holds : tie.Need-loop-holds Inv-loop μ-loop
 unfolding crcByte
 loop-holds c = (omega arith, refl)
 
-crc-bit-requires : tie.Need-crc-bit-requires Inv-loop μ-loop
-crc-bit-requires c κs = search needs
-
-add-i : tie.Need-add-i Inv-loop μ-loop
-add-i c = search needs
-
-loop-less : tie.Need-loop-less Inv-loop μ-loop
-loop-less c = search needs
-
 loop-again : tie.Need-loop-again Inv-loop μ-loop
 loop-again c =
     let head = c .before .before in
@@ -40,4 +31,4 @@ returns c =
 pub crc-byte-spec : {M : Type 1} → statement M
 crc-byte-spec =
     tie.close
-    (tie.spec Inv-loop μ-loop loop-holds crc-bit-requires add-i loop-less loop-again returns)
+    (tie.spec Inv-loop μ-loop loop-holds (λ c κs. tt) (λ c. search needs) (λ c. search needs) loop-again returns)

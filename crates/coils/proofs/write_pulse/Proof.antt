@@ -2,7 +2,7 @@
 use native.Mathlib.Omega.{arith}
 use Prim.Native.Nat.{_+_, _-_, _/_, _%_}
 use mathlib.Core.Path.{_≡_, sym, _∙_}
-use mathlib.Core.Bool.{true, false, not, _&&_, _||_}
+use mathlib.Core.Bool.{true, false, not, _||_}
 use denote.Ref.{now}
 use lib.Dec.{eqb}
 use lib.ListN.{length, getD}

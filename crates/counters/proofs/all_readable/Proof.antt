@@ -18,25 +18,10 @@ Inv-loop ps i₀ i = (i ≤ length ps) × (all readable (drop i ps) ≡ all read
 abbrev μ-loop : tie.MeasureT-loop
 μ-loop ps i₀ i = length ps - i
 
-loop-holds : tie.Need-loop-holds Inv-loop μ-loop
-loop-holds c = (omega arith, refl)
-
-shared-slice-read-is-readable : tie.Need-shared-slice-read-is-readable Inv-loop μ-loop
-shared-slice-read-is-readable c = search needs
-
-is-readable-requires : tie.Need-is-readable-requires Inv-loop μ-loop
-is-readable-requires c κs = search needs
-
 returns : tie.Need-returns Inv-loop μ-loop
 returns c =
     let at = c .before .before .before in
     all-stops readable _ _ _ (rest-first _ _ (at .loop-test .taken)) (sym (c .before .is-readable .ensures) ∙ not-true _ (c .if1 .taken)) ∙ at .before .loop .inv .1
-
-add-i : tie.Need-add-i Inv-loop μ-loop
-add-i c = search needs
-
-loop-less : tie.Need-loop-less Inv-loop μ-loop
-loop-less c = search needs
 
 loop-again : tie.Need-loop-again Inv-loop μ-loop
 loop-again c =
@@ -52,11 +37,11 @@ all-readable-spec =
     (tie.spec
     Inv-loop
     μ-loop
-    loop-holds
-    shared-slice-read-is-readable
-    is-readable-requires
+    (λ c. (omega arith, refl))
+    (λ c. search needs)
+    (λ c κs. tt)
     returns
-    add-i
-    loop-less
+    (λ c. search needs)
+    (λ c. search needs)
     loop-again
     returns-2)

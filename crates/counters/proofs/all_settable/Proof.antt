@@ -19,38 +19,11 @@ Inv-loop d i₀ i = (i ≤ length d) × (all modeSettable (entries 2 (drop i d))
 abbrev μ-loop : tie.MeasureT-loop
 μ-loop d i₀ i = length d - i
 
-loop-holds : tie.Need-loop-holds Inv-loop μ-loop
-loop-holds c = (omega arith, refl)
-
-sub-loop : tie.Need-sub-loop Inv-loop μ-loop
-sub-loop c = omega arith
-
-shared-slice-read-n : tie.Need-shared-slice-read-n Inv-loop μ-loop
-shared-slice-read-n c = omega arith
-
-add-wide : tie.Need-add-wide Inv-loop μ-loop
-add-wide c = omega arith
-
-shared-slice-read-wide : tie.Need-shared-slice-read-wide Inv-loop μ-loop
-shared-slice-read-wide c = omega arith
-
-wide-requires : tie.Need-wide-requires Inv-loop μ-loop
-wide-requires c κs = tt
-
-mode-settable-requires : tie.Need-mode-settable-requires Inv-loop μ-loop
-mode-settable-requires c κs = tt
-
 returns : tie.Need-returns Inv-loop μ-loop
 returns c =
     let at = c .before .before .before .before .before .before in
     let bad = rw (c .before .before .wide .ensures) at (sym (c .before .mode-settable .ensures) ∙ not-true _ (c .if1 .taken)) in
     all-stops modeSettable _ _ _ (pair-first (now (at .before .before .args .d)) (at .loop .i) (omega arith)) bad ∙ at .loop .inv .1
-
-add-i : tie.Need-add-i Inv-loop μ-loop
-add-i c = omega arith
-
-loop-less : tie.Need-loop-less Inv-loop μ-loop
-loop-less c = omega arith
 
 loop-again : tie.Need-loop-again Inv-loop μ-loop
 loop-again c =
@@ -67,15 +40,15 @@ all-settable-spec =
     (tie.spec
     Inv-loop
     μ-loop
-    loop-holds
-    sub-loop
-    shared-slice-read-n
-    add-wide
-    shared-slice-read-wide
-    wide-requires
-    mode-settable-requires
+    (λ c. (omega arith, refl))
+    (λ c. omega arith)
+    (λ c. omega arith)
+    (λ c. omega arith)
+    (λ c. omega arith)
+    (λ c κs. tt)
+    (λ c κs. tt)
     returns
-    add-i
-    loop-less
+    (λ c. omega arith)
+    (λ c. omega arith)
     loop-again
     returns-2)

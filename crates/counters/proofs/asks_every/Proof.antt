@@ -5,9 +5,6 @@ use Rattle.counters.specs.Answers.{asksEvery}
 use Rattle.counters.proofs.asks_every.Statement.{statement}
 use Rattle.counters.proofs.asks_every.Tie as tie
 
-shared-slice-read-result : tie.Need-shared-slice-read-result
-shared-slice-read-result c = search needs
-
 returns : tie.Need-returns
 unfolding asksEvery
 returns c = rw (eq-eqb _ _ (c .before .if1 .taken))
@@ -17,4 +14,4 @@ unfolding asksEvery
 returns-2 c = rw (ne-eqb _ _ (c .if1 .left))
 
 pub asks-every-spec : {M : Type 1} → statement M
-asks-every-spec = tie.close (tie.spec shared-slice-read-result returns returns-2)
+asks-every-spec = tie.close (tie.spec (λ c. search needs) returns returns-2)

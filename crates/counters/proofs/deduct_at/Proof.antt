@@ -1,20 +1,7 @@
 -- `counters::deduct_at` meets its contract. Assumes nothing.
-use borrow.Author.Needs.{needs}
 use Rattle.model.specs.Counters.{deductOne}
 use Rattle.counters.proofs.deduct_at.Statement.{statement}
 use Rattle.counters.proofs.deduct_at.Tie as tie
-
-index-of-requires : tie.Need-index-of-requires
-index-of-requires c κs = search needs
-
-word-at-requires : tie.Need-word-at-requires
-word-at-requires c κs = search needs
-
-less-requires : tie.Need-less-requires
-less-requires c κs = search needs
-
-with-word-requires : tie.Need-with-word-requires
-with-word-requires c κs = search needs
 
 returns : tie.Need-returns
 unfolding deductOne
@@ -23,4 +10,4 @@ returns c = rw (c .with-word .ensures, c .before .less .ensures, c .before .befo
 pub deduct-at-spec : {M : Type 1} → statement M
 deduct-at-spec =
     tie.close
-    (tie.spec index-of-requires word-at-requires less-requires with-word-requires returns)
+    (tie.spec (λ c κs. tt) (λ c κs. tt) (λ c κs. tt) (λ c κs. tt) returns)

@@ -19,36 +19,6 @@ Inv-loop cs d copy₀ i₀ copy i = (i ≤ length d) × (deducting cs copy (entr
 abbrev μ-loop : tie.MeasureT-loop
 μ-loop cs d copy₀ i₀ copy i = length d - i
 
-loop-holds : tie.Need-loop-holds Inv-loop μ-loop
-loop-holds c = (omega arith, refl)
-
-sub-loop : tie.Need-sub-loop Inv-loop μ-loop
-sub-loop c = omega arith
-
-shared-slice-read-n : tie.Need-shared-slice-read-n Inv-loop μ-loop
-shared-slice-read-n c = omega arith
-
-add-be16 : tie.Need-add-be16 Inv-loop μ-loop
-add-be16 c = omega arith
-
-shared-slice-read-be16 : tie.Need-shared-slice-read-be16 Inv-loop μ-loop
-shared-slice-read-be16 c = omega arith
-
-add-be16-2 : tie.Need-add-be16-2 Inv-loop μ-loop
-add-be16-2 c = omega arith
-
-shared-slice-read-be16-2 : tie.Need-shared-slice-read-be16-2 Inv-loop μ-loop
-shared-slice-read-be16-2 c = omega arith
-
-be16-requires : tie.Need-be16-requires Inv-loop μ-loop
-be16-requires c κs = tt
-
-fits-at-requires : tie.Need-fits-at-requires Inv-loop μ-loop
-fits-at-requires c κs = tt
-
-deny-requires : tie.Need-deny-requires Inv-loop μ-loop
-deny-requires c κs = tt
-
 returns : tie.Need-returns Inv-loop μ-loop
 returns c =
     let e = c .before in
@@ -59,15 +29,6 @@ returns c =
     ∙ turn-stops deductible deductOne deducted (notDeducted (from .cs)) (at .loop .copy) _ _ _ (triple-first (now (from .d)) (at .loop .i) (omega arith)) over
     ∙ at .loop .inv .1
     ∙ deduct-walk (from .cs) (entries 3 (now (from .d)))
-
-deduct-at-requires : tie.Need-deduct-at-requires Inv-loop μ-loop
-deduct-at-requires c κs = tt
-
-add-i : tie.Need-add-i Inv-loop μ-loop
-add-i c = omega arith
-
-loop-less : tie.Need-loop-less Inv-loop μ-loop
-loop-less c = omega arith
 
 loop-again : tie.Need-loop-again Inv-loop μ-loop
 loop-again c =
@@ -91,19 +52,19 @@ deduct-each-spec =
     (tie.spec
     Inv-loop
     μ-loop
-    loop-holds
-    sub-loop
-    shared-slice-read-n
-    add-be16
-    shared-slice-read-be16
-    add-be16-2
-    shared-slice-read-be16-2
-    be16-requires
-    fits-at-requires
-    deny-requires
+    (λ c. (omega arith, refl))
+    (λ c. omega arith)
+    (λ c. omega arith)
+    (λ c. omega arith)
+    (λ c. omega arith)
+    (λ c. omega arith)
+    (λ c. omega arith)
+    (λ c κs. tt)
+    (λ c κs. tt)
+    (λ c κs. tt)
     returns
-    deduct-at-requires
-    add-i
-    loop-less
+    (λ c κs. tt)
+    (λ c. omega arith)
+    (λ c. omega arith)
     loop-again
     returns-2)

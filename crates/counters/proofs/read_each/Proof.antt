@@ -19,24 +19,6 @@ Inv-loop ps r₀ i₀ r i = (i ≤ length ps) × (foldl readStep r (drop i ps) �
 abbrev μ-loop : tie.MeasureT-loop
 μ-loop ps r₀ i₀ r i = length ps - i
 
-read-start-requires : tie.Need-read-start-requires Inv-loop μ-loop
-read-start-requires c κs = search needs
-
-loop-holds : tie.Need-loop-holds Inv-loop μ-loop
-loop-holds c = (omega arith, refl)
-
-shared-slice-read-read-one : tie.Need-shared-slice-read-read-one Inv-loop μ-loop
-shared-slice-read-read-one c = search needs
-
-read-one-requires : tie.Need-read-one-requires Inv-loop μ-loop
-read-one-requires c κs = search needs
-
-add-i : tie.Need-add-i Inv-loop μ-loop
-add-i c = search needs
-
-loop-less : tie.Need-loop-less Inv-loop μ-loop
-loop-less c = search needs
-
 loop-again : tie.Need-loop-again Inv-loop μ-loop
 loop-again c =
     let at = c .before .before .before in
@@ -55,11 +37,11 @@ read-each-spec =
     (tie.spec
     Inv-loop
     μ-loop
-    read-start-requires
-    loop-holds
-    shared-slice-read-read-one
-    read-one-requires
-    add-i
-    loop-less
+    (λ c κs. tt)
+    (λ c. (omega arith, refl))
+    (λ c. search needs)
+    (λ c κs. tt)
+    (λ c. search needs)
+    (λ c. search needs)
     loop-again
     returns)

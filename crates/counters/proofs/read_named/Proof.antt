@@ -1,23 +1,13 @@
 -- `counters::read_named` meets its contract. Assumes nothing.
-use borrow.Author.Needs.{needs}
 use mathlib.Core.Path.{sym, _∙_}
 use borrow.Author.Tests.{not-true, not-false}
 use Rattle.counters.specs.Answers.{readNamed}
 use Rattle.counters.proofs.read_named.Statement.{statement}
 use Rattle.counters.proofs.read_named.Tie as tie
 
-all-readable-requires : tie.Need-all-readable-requires
-all-readable-requires c κs = search needs
-
-refuse-requires : tie.Need-refuse-requires
-refuse-requires c κs = search needs
-
 returns : tie.Need-returns
 unfolding readNamed
 returns c = rw (c .refuse .ensures, sym (c .before .before .all-readable .ensures) ∙ not-true _ (c .before .if1 .taken))
-
-read-each-requires : tie.Need-read-each-requires
-read-each-requires c κs = search needs
 
 returns-2 : tie.Need-returns-2
 unfolding readNamed
@@ -25,4 +15,4 @@ returns-2 c = rw (c .read-each .ensures, sym (c .before .before .all-readable .e
 
 pub read-named-spec : {M : Type 1} → statement M
 read-named-spec =
-    tie.close (tie.spec all-readable-requires refuse-requires returns read-each-requires returns-2)
+    tie.close (tie.spec (λ c κs. tt) (λ c κs. tt) returns (λ c κs. tt) returns-2)

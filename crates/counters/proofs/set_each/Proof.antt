@@ -18,30 +18,6 @@ Inv-loop d copy₀ i₀ copy i = (i ≤ length d) × (foldl setMode copy (entrie
 abbrev μ-loop : tie.MeasureT-loop
 μ-loop d copy₀ i₀ copy i = length d - i
 
-loop-holds : tie.Need-loop-holds Inv-loop μ-loop
-loop-holds c = (omega arith, refl)
-
-sub-loop : tie.Need-sub-loop Inv-loop μ-loop
-sub-loop c = omega arith
-
-shared-slice-read-n : tie.Need-shared-slice-read-n Inv-loop μ-loop
-shared-slice-read-n c = omega arith
-
-add-v : tie.Need-add-v Inv-loop μ-loop
-add-v c = omega arith
-
-shared-slice-read-v : tie.Need-shared-slice-read-v Inv-loop μ-loop
-shared-slice-read-v c = omega arith
-
-set-mode-at-requires : tie.Need-set-mode-at-requires Inv-loop μ-loop
-set-mode-at-requires c κs = tt
-
-add-i : tie.Need-add-i Inv-loop μ-loop
-add-i c = omega arith
-
-loop-less : tie.Need-loop-less Inv-loop μ-loop
-loop-less c = omega arith
-
 loop-again : tie.Need-loop-again Inv-loop μ-loop
 loop-again c =
     let at = c .before .before .before .before in
@@ -56,13 +32,13 @@ set-each-spec =
     (tie.spec
     Inv-loop
     μ-loop
-    loop-holds
-    sub-loop
-    shared-slice-read-n
-    add-v
-    shared-slice-read-v
-    set-mode-at-requires
-    add-i
-    loop-less
+    (λ c. (omega arith, refl))
+    (λ c. omega arith)
+    (λ c. omega arith)
+    (λ c. omega arith)
+    (λ c. omega arith)
+    (λ c κs. tt)
+    (λ c. omega arith)
+    (λ c. omega arith)
     loop-again
     returns)

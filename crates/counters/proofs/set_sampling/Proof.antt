@@ -15,9 +15,6 @@ returns : tie.Need-returns
 unfolding setSampling judged
 returns c = rw (ne-eqb _ _ (c .if1 .taken))
 
-shared-slice-read-sampling : tie.Need-shared-slice-read-sampling
-shared-slice-read-sampling c = search needs
-
 returns-2 : tie.Need-returns-2
 unfolding setSampling judged within
 returns-2 c = rw (eq-eqb _ _ (c .before .before .if1 .left), c .if2 .taken)
@@ -30,4 +27,4 @@ returns-3 c =
     rw (eq-eqb _ _ (at .before .if1 .left), is-within 1 255 (getD d 0 0) (omega arith) (omega (arith, at .shared-slice-known .given 0)))
 
 pub set-sampling-spec : {M : Type 1} → statement M
-set-sampling-spec = tie.close (tie.spec returns shared-slice-read-sampling returns-2 returns-3)
+set-sampling-spec = tie.close (tie.spec returns (λ c. search needs) returns-2 returns-3)

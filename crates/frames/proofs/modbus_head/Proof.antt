@@ -5,15 +5,9 @@ use borrow.Author.Needs.{needs}
 use Rattle.frames.proofs.modbus_head.Statement.{statement}
 use Rattle.frames.proofs.modbus_head.Tie as tie
 
-array-write-bytes : tie.Need-array-write-bytes
-array-write-bytes c = search needs
-
-array-write-bytes-2 : tie.Need-array-write-bytes-2
-array-write-bytes-2 c = search needs
-
 returns : tie.Need-returns
 unfolding padded
 returns c = refl
 
 pub modbus-head-spec : {M : Type 1} → statement M
-modbus-head-spec = tie.close (tie.spec array-write-bytes array-write-bytes-2 returns)
+modbus-head-spec = tie.close (tie.spec (λ c. search needs) (λ c. search needs) returns)

@@ -6,34 +6,21 @@ use lib.ListN.{length}
 use denote.Ref.{now}
 use Rattle.model.specs.Refusals.{modbusFrameRefusal}
 use Rattle.frames.proofs.Passing.{at-least}
-use borrow.Author.Needs.{needs}
 use Rattle.frames.proofs.modbus_refusal.Statement.{statement}
 use Rattle.frames.proofs.modbus_refusal.Tie as tie
 
 long : (c : tie.Else1) → 4 ≤ length (now (c .before .before .before .args .frame))
 long c = at-least 4 (now (c .before .before .before .args .frame)) (sym (c .before .frame-length-wrong .ensures) ∙ c .if1 .left)
 
-frame-length-wrong-requires : tie.Need-frame-length-wrong-requires
-frame-length-wrong-requires c κs = search needs
-
 returns : tie.Need-returns
 unfolding modbusFrameRefusal
 returns c = rw (sym (c .before .frame-length-wrong .ensures) ∙ c .if1 .taken)
-
-crc-wrong-requires : tie.Need-crc-wrong-requires
-crc-wrong-requires c κs = long c
 
 returns-2 : tie.Need-returns-2
 unfolding modbusFrameRefusal
 returns-2 c =
     let a = c .before .before in
     rw (sym (a .before .frame-length-wrong .ensures) ∙ a .if1 .left, sym (c .before .crc-wrong .ensures) ∙ c .if2 .taken)
-
-shared-slice-read-modbus-address-wrong : tie.Need-shared-slice-read-modbus-address-wrong
-shared-slice-read-modbus-address-wrong c = omega (arith, long (c .before .before .before))
-
-modbus-address-wrong-requires : tie.Need-modbus-address-wrong-requires
-modbus-address-wrong-requires c κs = search needs
 
 returns-3 : tie.Need-returns-3
 unfolding modbusFrameRefusal
@@ -47,9 +34,6 @@ shared-slice-read-modbus-broadcast-wrong c = omega (arith, long (c .before .befo
 
 shared-slice-read-modbus-broadcast-wrong-2 : tie.Need-shared-slice-read-modbus-broadcast-wrong-2
 shared-slice-read-modbus-broadcast-wrong-2 c = omega (arith, long (c .before .before .before .before .before .before .before))
-
-modbus-broadcast-wrong-requires : tie.Need-modbus-broadcast-wrong-requires
-modbus-broadcast-wrong-requires c κs = search needs
 
 returns-4 : tie.Need-returns-4
 unfolding modbusFrameRefusal
@@ -71,15 +55,15 @@ pub modbus-refusal-spec : {M : Type 1} → statement M
 modbus-refusal-spec =
     tie.close
     (tie.spec
-    frame-length-wrong-requires
+    (λ c κs. tt)
     returns
-    crc-wrong-requires
+    (λ c κs. long c)
     returns-2
-    shared-slice-read-modbus-address-wrong
-    modbus-address-wrong-requires
+    (λ c. omega (arith, long (c .before .before .before)))
+    (λ c κs. tt)
     returns-3
     shared-slice-read-modbus-broadcast-wrong
     shared-slice-read-modbus-broadcast-wrong-2
-    modbus-broadcast-wrong-requires
+    (λ c κs. tt)
     returns-4
     returns-5)

@@ -26,21 +26,6 @@ loop-holds c =
     let a = c .args in
     (omega arith, paste-zero (a .start) (a .at) (a .t3 .bytes))
 
-element-copy-out-bytes : tie.Need-element-copy-out-bytes Inv-loop μ-loop
-element-copy-out-bytes c = search needs
-
-add-bytes : tie.Need-add-bytes Inv-loop μ-loop
-add-bytes c = search needs
-
-array-write-bytes : tie.Need-array-write-bytes Inv-loop μ-loop
-array-write-bytes c = search needs
-
-add-i : tie.Need-add-i Inv-loop μ-loop
-add-i c = search needs
-
-loop-less : tie.Need-loop-less Inv-loop μ-loop
-loop-less c = search needs
-
 loop-again : tie.Need-loop-again Inv-loop μ-loop
 loop-again c =
     let at = c .before .before in
@@ -65,10 +50,10 @@ place-spec =
     Inv-loop
     μ-loop
     loop-holds
-    element-copy-out-bytes
-    add-bytes
-    array-write-bytes
-    add-i
-    loop-less
+    (λ c. search needs)
+    (λ c. search needs)
+    (λ c. search needs)
+    (λ c. search needs)
+    (λ c. search needs)
     loop-again
     returns)

@@ -6,31 +6,21 @@ use lib.ListN.{length}
 use denote.Ref.{now}
 use Rattle.model.specs.Refusals.{spinelFrameRefusal}
 use Rattle.frames.proofs.Passing.{at-least}
-use borrow.Author.Needs.{needs}
 use Rattle.frames.proofs.spinel_refusal.Statement.{statement}
 use Rattle.frames.proofs.spinel_refusal.Tie as tie
 
 long : (c : tie.Else1) → 9 ≤ length (now (c .before .before .before .args .frame))
 long c = at-least 9 (now (c .before .before .before .args .frame)) (sym (c .before .frame-length-wrong .ensures) ∙ c .if1 .left)
 
-frame-length-wrong-requires : tie.Need-frame-length-wrong-requires
-frame-length-wrong-requires c κs = search needs
-
 returns : tie.Need-returns
 unfolding spinelFrameRefusal
 returns c = rw (sym (c .before .frame-length-wrong .ensures) ∙ c .if1 .taken)
-
-shape-wrong-requires : tie.Need-shape-wrong-requires
-shape-wrong-requires c κs = long c
 
 returns-2 : tie.Need-returns-2
 unfolding spinelFrameRefusal
 returns-2 c =
     let a = c .before .before in
     rw (sym (a .before .frame-length-wrong .ensures) ∙ a .if1 .left, sym (c .before .shape-wrong .ensures) ∙ c .if2 .taken)
-
-sum-wrong-requires : tie.Need-sum-wrong-requires
-sum-wrong-requires c κs = long (c .before .before)
 
 returns-3 : tie.Need-returns-3
 unfolding spinelFrameRefusal
@@ -41,9 +31,6 @@ returns-3 c =
 
 shared-slice-read-spinel-address-wrong : tie.Need-shared-slice-read-spinel-address-wrong
 shared-slice-read-spinel-address-wrong c = omega (arith, long (c .before .before .before .before .before))
-
-spinel-address-wrong-requires : tie.Need-spinel-address-wrong-requires
-spinel-address-wrong-requires c κs = search needs
 
 returns-4 : tie.Need-returns-4
 unfolding spinelFrameRefusal
@@ -58,9 +45,6 @@ shared-slice-read-spinel-broadcast-wrong c = omega (arith, long (c .before .befo
 
 shared-slice-read-spinel-broadcast-wrong-2 : tie.Need-shared-slice-read-spinel-broadcast-wrong-2
 shared-slice-read-spinel-broadcast-wrong-2 c = omega (arith, long (c .before .before .before .before .before .before .before .before .before))
-
-spinel-broadcast-wrong-requires : tie.Need-spinel-broadcast-wrong-requires
-spinel-broadcast-wrong-requires c κs = search needs
 
 returns-5 : tie.Need-returns-5
 unfolding spinelFrameRefusal
@@ -84,17 +68,17 @@ pub spinel-refusal-spec : {M : Type 1} → statement M
 spinel-refusal-spec =
     tie.close
     (tie.spec
-    frame-length-wrong-requires
+    (λ c κs. tt)
     returns
-    shape-wrong-requires
+    (λ c κs. long c)
     returns-2
-    sum-wrong-requires
+    (λ c κs. long (c .before .before))
     returns-3
     shared-slice-read-spinel-address-wrong
-    spinel-address-wrong-requires
+    (λ c κs. tt)
     returns-4
     shared-slice-read-spinel-broadcast-wrong
     shared-slice-read-spinel-broadcast-wrong-2
-    spinel-broadcast-wrong-requires
+    (λ c κs. tt)
     returns-5
     returns-6)

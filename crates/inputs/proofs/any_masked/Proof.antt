@@ -21,33 +21,6 @@ abbrev μ-loop : tie.MeasureT-loop
 long : (c : tie.Start Inv-loop μ-loop) → length (c .args .t2) ≡ 16
 long c = search needs
 
-loop-holds : tie.Need-loop-holds Inv-loop μ-loop
-loop-holds c = (omega arith, some-none _)
-
-mul-before : tie.Need-mul-before Inv-loop μ-loop
-mul-before c = omega arith
-
-array-copy-out-before : tie.Need-array-copy-out-before Inv-loop μ-loop
-array-copy-out-before c = omega arith
-
-mul-after : tie.Need-mul-after Inv-loop μ-loop
-mul-after c = omega arith
-
-array-copy-out-after : tie.Need-array-copy-out-after Inv-loop μ-loop
-array-copy-out-after c = omega arith
-
-bit-at-requires : tie.Need-bit-at-requires Inv-loop μ-loop
-bit-at-requires c κs = search needs
-
-is-edge-requires : tie.Need-is-edge-requires Inv-loop μ-loop
-is-edge-requires c κs = search needs
-
-add-i : tie.Need-add-i Inv-loop μ-loop
-add-i c = omega arith
-
-loop-less : tie.Need-loop-less Inv-loop μ-loop
-loop-less c = omega arith
-
 loop-again : tie.Need-loop-again Inv-loop μ-loop
 loop-again c =
     let p = c .before .before .before .before .before in
@@ -65,14 +38,14 @@ any-masked-spec =
     (tie.spec
     Inv-loop
     μ-loop
-    loop-holds
-    mul-before
-    array-copy-out-before
-    mul-after
-    array-copy-out-after
-    bit-at-requires
-    is-edge-requires
-    add-i
-    loop-less
+    (λ c. (omega arith, some-none _))
+    (λ c. omega arith)
+    (λ c. omega arith)
+    (λ c. omega arith)
+    (λ c. omega arith)
+    (λ c κs. search needs)
+    (λ c κs. tt)
+    (λ c. omega arith)
+    (λ c. omega arith)
     loop-again
     returns)

@@ -20,48 +20,6 @@ abbrev μ-loop : tie.MeasureT-loop
 long : (c : tie.Start Inv-loop μ-loop) → length (c .args .counters) ≡ 16
 long c = search needs
 
-loop-holds : tie.Need-loop-holds Inv-loop μ-loop
-loop-holds c = (omega arith, sym (done-none _ _))
-
-mul-counter : tie.Need-mul-counter Inv-loop μ-loop
-mul-counter c = omega arith
-
-array-read-counter : tie.Need-array-read-counter Inv-loop μ-loop
-array-read-counter c = omega arith
-
-array-read-mode : tie.Need-array-read-mode Inv-loop μ-loop
-array-read-mode c = omega arith
-
-mul-before : tie.Need-mul-before Inv-loop μ-loop
-mul-before c = omega arith
-
-array-copy-out-before : tie.Need-array-copy-out-before Inv-loop μ-loop
-array-copy-out-before c = omega arith
-
-mul-after : tie.Need-mul-after Inv-loop μ-loop
-mul-after c = omega arith
-
-array-copy-out-after : tie.Need-array-copy-out-after Inv-loop μ-loop
-array-copy-out-after c = omega arith
-
-is-selected-requires : tie.Need-is-selected-requires Inv-loop μ-loop
-is-selected-requires c κs = search needs
-
-count-requires : tie.Need-count-requires Inv-loop μ-loop
-count-requires c κs = search needs
-
-mul-next : tie.Need-mul-next Inv-loop μ-loop
-mul-next c = omega arith
-
-array-write-next : tie.Need-array-write-next Inv-loop μ-loop
-array-write-next c = omega arith
-
-add-i : tie.Need-add-i Inv-loop μ-loop
-add-i c = omega arith
-
-loop-less : tie.Need-loop-less Inv-loop μ-loop
-loop-less c = omega arith
-
 loop-again : tie.Need-loop-again Inv-loop μ-loop
 loop-again c =
     let p = c .before .before .before .before .before in
@@ -81,19 +39,19 @@ count-lines-spec =
     (tie.spec
     Inv-loop
     μ-loop
-    loop-holds
-    mul-counter
-    array-read-counter
-    array-read-mode
-    mul-before
-    array-copy-out-before
-    mul-after
-    array-copy-out-after
-    is-selected-requires
-    count-requires
-    mul-next
-    array-write-next
-    add-i
-    loop-less
+    (λ c. (omega arith, sym (done-none _ _)))
+    (λ c. omega arith)
+    (λ c. omega arith)
+    (λ c. omega arith)
+    (λ c. omega arith)
+    (λ c. omega arith)
+    (λ c. omega arith)
+    (λ c. omega arith)
+    (λ c κs. tt)
+    (λ c κs. tt)
+    (λ c. omega arith)
+    (λ c. omega arith)
+    (λ c. omega arith)
+    (λ c. omega arith)
     loop-again
     returns)

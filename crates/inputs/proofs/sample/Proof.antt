@@ -7,15 +7,6 @@ use Rattle.inputs.proofs.Edges.{with-edge, without-edge}
 use Rattle.inputs.proofs.sample.Statement.{statement}
 use Rattle.inputs.proofs.sample.Tie as tie
 
-sample-lines-requires : tie.Need-sample-lines-requires
-sample-lines-requires c κs = search needs
-
-any-edge-requires : tie.Need-any-edge-requires
-any-edge-requires c κs = search needs
-
-count-lines-requires : tie.Need-count-lines-requires
-count-lines-requires c κs = search needs
-
 lines-long : (c : tie.After-sample-lines) → length (c .sample-lines .result) ≡ 16
 lines-long c = search needs
 
@@ -37,4 +28,4 @@ returns-2 c =
 pub sample-spec : {M : Type 1} → statement M
 sample-spec =
     tie.close
-    (tie.spec sample-lines-requires any-edge-requires count-lines-requires returns returns-2)
+    (tie.spec (λ c κs. tt) (λ c κs. tt) (λ c κs. tt) returns returns-2)

@@ -27,31 +27,10 @@ abbrev μ-loop : tie.MeasureT-loop
 long : (c : tie.Start Inv-loop μ-loop) → length (c .args .t1) ≡ 16
 long c = search needs
 
-loop-holds : tie.Need-loop-holds Inv-loop μ-loop
-loop-holds c = (omega arith, bits-none stable (c .args .t1) (long c))
-
-sub-i : tie.Need-sub-i Inv-loop μ-loop
-sub-i c = omega arith
-
-mul-x : tie.Need-mul-x Inv-loop μ-loop
-mul-x c = omega arith
-
-array-copy-out-x : tie.Need-array-copy-out-x Inv-loop μ-loop
-array-copy-out-x c = omega arith
-
-cast-s : tie.Need-cast-s Inv-loop μ-loop
-cast-s c = tt
-
-mul-bits : tie.Need-mul-bits Inv-loop μ-loop
-mul-bits c = omega arith
-
 add-bits : tie.Need-add-bits Inv-loop μ-loop
 add-bits c =
     let p = c .before .before .before in
     omega (arith, byte-most (getD (p .before .args .t1) (p .loop .i - 1) freshLine .stable))
-
-loop-less : tie.Need-loop-less Inv-loop μ-loop
-loop-less c = omega arith
 
 loop-again : tie.Need-loop-again Inv-loop μ-loop
 loop-again c =
@@ -74,13 +53,13 @@ stable-bits-spec =
     (tie.spec
     Inv-loop
     μ-loop
-    loop-holds
-    sub-i
-    mul-x
-    array-copy-out-x
-    cast-s
-    mul-bits
+    (λ c. (omega arith, bits-none stable (c .args .t1) (long c)))
+    (λ c. omega arith)
+    (λ c. omega arith)
+    (λ c. omega arith)
+    (λ c. tt)
+    (λ c. omega arith)
     add-bits
-    loop-less
+    (λ c. omega arith)
     loop-again
     returns)

@@ -17,29 +17,11 @@ Inv-loop n reply₀ bytes i₀ reply i = (i ≤ n) × (length reply ≡ length r
 abbrev μ-loop : tie.MeasureT-loop
 μ-loop n reply₀ bytes i₀ reply i = n - i
 
-loop-holds : tie.Need-loop-holds Inv-loop μ-loop
-loop-holds c = (omega arith, refl, refl)
-
-array-read-reply : tie.Need-array-read-reply Inv-loop μ-loop
-array-read-reply c = search needs
-
-slice-write-reply : tie.Need-slice-write-reply Inv-loop μ-loop
-slice-write-reply c = search needs
-
-add-i : tie.Need-add-i Inv-loop μ-loop
-add-i c = search needs
-
-loop-less : tie.Need-loop-less Inv-loop μ-loop
-loop-less c = search needs
-
 loop-again : tie.Need-loop-again Inv-loop μ-loop
 loop-again c =
     let at = c .before .loop in
     let from = c .before .before .args in
     (omega arith, simp length-set (at .inv .1), rw (at .inv .2) (over-turn (from .t1) (now (from .reply)) (at .i) (omega arith) (omega arith)))
-
-same-length : tie.Need-same-length Inv-loop μ-loop
-same-length c = c .before .loop .inv .1
 
 returns : tie.Need-returns Inv-loop μ-loop
 returns c =
@@ -54,11 +36,11 @@ copy-out-spec =
     (tie.spec
     Inv-loop
     μ-loop
-    loop-holds
-    array-read-reply
-    slice-write-reply
-    add-i
-    loop-less
+    (λ c. (omega arith, refl, refl))
+    (λ c. search needs)
+    (λ c. search needs)
+    (λ c. search needs)
+    (λ c. search needs)
     loop-again
-    same-length
+    (λ c. c .before .loop .inv .1)
     returns)

@@ -3,8 +3,5 @@ use Rattle.model.proofs.Conservation.{conserved}
 use Rattle.iomodule.proofs.cycles_conserved.Statement.{statement}
 use Rattle.iomodule.proofs.cycles_conserved.Tie as tie
 
-returns : tie.Need-returns
-returns c = conserved
-
 pub cycles-conserved-spec : {M : Type 1} → statement M
-cycles-conserved-spec = tie.close (tie.spec returns)
+cycles-conserved-spec = tie.close (tie.spec (λ c. conserved))

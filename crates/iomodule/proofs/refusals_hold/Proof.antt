@@ -3,8 +3,5 @@ use Rattle.model.proofs.Refused.{refusalsHold}
 use Rattle.iomodule.proofs.refusals_hold.Statement.{statement}
 use Rattle.iomodule.proofs.refusals_hold.Tie as tie
 
-returns : tie.Need-returns
-returns c = refusalsHold
-
 pub refusals-hold-spec : {M : Type 1} → statement M
-refusals-hold-spec = tie.close (tie.spec returns)
+refusals-hold-spec = tie.close (tie.spec (λ c. refusalsHold))

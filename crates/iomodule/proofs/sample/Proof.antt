@@ -14,30 +14,12 @@ use Rattle.iomodule.proofs.sample.Tie as tie
 enough : (c : tie.Else1) → 256 ≤ length (now (c .before .before .before .args .reply))
 enough c = ltb-false _ 256 (sym (c .before .is-short .ensures) ∙ c .if1 .left)
 
-is-short-requires : tie.Need-is-short-requires
-is-short-requires c κs = search needs
-
-no-room-requires : tie.Need-no-room-requires
-no-room-requires c κs = search needs
-
 returns : tie.Need-returns
 unfolding sampleCall
 returns c = rw (sym (c .before .before .is-short .ensures) ∙ c .before .if1 .taken) (record { answer = c .no-room .ensures; buffer = refl })
 
-step-requires : tie.Need-step-requires
-step-requires c κs = search needs
-
-stable-bits-requires : tie.Need-stable-bits-requires
-stable-bits-requires c κs = search needs
-
-notice-data-requires : tie.Need-notice-data-requires
-notice-data-requires c κs = search needs
-
 copy-out-requires : tie.Need-copy-out-requires
 copy-out-requires c κs = omega (arith, enough (c .before .before .before .before .before .before .before .before .before .before .before))
-
-same-length : tie.Need-same-length
-same-length c = search needs
 
 returns-2 : tie.Need-returns-2
 returns-2 c =
@@ -59,13 +41,13 @@ pub sample-spec : {M : Type 1} → statement M
 sample-spec =
     tie.close
     (tie.spec
-    is-short-requires
-    no-room-requires
+    (λ c κs. tt)
+    (λ c κs. tt)
     returns
-    step-requires
-    stable-bits-requires
-    notice-data-requires
+    (λ c κs. tt)
+    (λ c κs. tt)
+    (λ c κs. tt)
     copy-out-requires
-    same-length
+    (λ c. search needs)
     returns-2
     returns-3)

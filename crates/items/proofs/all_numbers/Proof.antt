@@ -18,25 +18,10 @@ Inv-loop d i₀ i = (i ≤ length d) × (all isNumber (drop i d) ≡ all isNumbe
 abbrev μ-loop : tie.MeasureT-loop
 μ-loop d i₀ i = length d - i
 
-loop-holds : tie.Need-loop-holds Inv-loop μ-loop
-loop-holds c = (omega arith, refl)
-
-shared-slice-read-is-number : tie.Need-shared-slice-read-is-number Inv-loop μ-loop
-shared-slice-read-is-number c = search needs
-
-is-number-requires : tie.Need-is-number-requires Inv-loop μ-loop
-is-number-requires c κs = tt
-
 returns : tie.Need-returns Inv-loop μ-loop
 returns c =
     let at = c .before .before .before in
     all-stops isNumber _ _ _ (rest-first _ _ (at .loop-test .taken)) (sym (c .before .is-number .ensures) ∙ not-true _ (c .if1 .taken)) ∙ at .before .loop .inv .1
-
-add-i : tie.Need-add-i Inv-loop μ-loop
-add-i c = search needs
-
-loop-less : tie.Need-loop-less Inv-loop μ-loop
-loop-less c = search needs
 
 loop-again : tie.Need-loop-again Inv-loop μ-loop
 loop-again c =
@@ -52,11 +37,11 @@ all-numbers-spec =
     (tie.spec
     Inv-loop
     μ-loop
-    loop-holds
-    shared-slice-read-is-number
-    is-number-requires
+    (λ c. (omega arith, refl))
+    (λ c. search needs)
+    (λ c κs. tt)
     returns
-    add-i
-    loop-less
+    (λ c. search needs)
+    (λ c. search needs)
     loop-again
     returns-2)

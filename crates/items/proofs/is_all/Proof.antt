@@ -5,9 +5,6 @@ use Rattle.items.specs.Items.{asksAll}
 use Rattle.items.proofs.is_all.Statement.{statement}
 use Rattle.items.proofs.is_all.Tie as tie
 
-shared-slice-read-result : tie.Need-shared-slice-read-result
-shared-slice-read-result c = search needs
-
 returns : tie.Need-returns
 unfolding asksAll
 returns c = rw (eq-eqb _ _ (c .before .if1 .taken))
@@ -17,4 +14,4 @@ unfolding asksAll
 returns-2 c = rw (ne-eqb _ _ (c .if1 .left))
 
 pub is-all-spec : {M : Type 1} → statement M
-is-all-spec = tie.close (tie.spec shared-slice-read-result returns returns-2)
+is-all-spec = tie.close (tie.spec (λ c. search needs) returns returns-2)

@@ -18,18 +18,9 @@ returns : tie.Need-returns
 unfolding itemsIn within
 returns c = rw (c .if1 .taken, div-zero) (never (eqb (c .before .args .n % 0) 0))
 
-rem-result : tie.Need-rem-result
-rem-result c = search needs
-
-div-result : tie.Need-div-result
-div-result c = search needs
-
-div-result-2 : tie.Need-div-result-2
-div-result-2 c = search needs
-
 returns-2 : tie.Need-returns-2
 unfolding itemsIn within
 returns-2 c = refl
 
 pub items-of-spec : {M : Type 1} → statement M
-items-of-spec = tie.close (tie.spec returns rem-result div-result div-result-2 returns-2)
+items-of-spec = tie.close (tie.spec returns (λ c. search needs) (λ c. search needs) (λ c. search needs) returns-2)

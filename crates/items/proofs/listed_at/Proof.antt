@@ -1,25 +1,15 @@
 -- `items::listed_at` meets its contract. Assumes nothing.
-use borrow.Author.Needs.{needs}
 use mathlib.Core.Path.{sym, _∙_}
 use Rattle.items.proofs.Lists.{listed-all, listed-own}
 use Rattle.items.proofs.listed_at.Statement.{statement}
 use Rattle.items.proofs.listed_at.Tie as tie
 
-is-all-requires : tie.Need-is-all-requires
-is-all-requires c κs = search needs
-
-number-at-requires : tie.Need-number-at-requires
-number-at-requires c κs = search needs
-
 returns : tie.Need-returns
 returns c = rw (listed-all _ (sym (c .before .before .is-all .ensures) ∙ c .before .if1 .taken)) (c .number-at .ensures)
-
-at-requires : tie.Need-at-requires
-at-requires c κs = search needs
 
 returns-2 : tie.Need-returns-2
 returns-2 c = rw (listed-own _ (sym (c .before .before .is-all .ensures) ∙ c .before .if1 .left)) (c .at .ensures)
 
 pub listed-at-spec : {M : Type 1} → statement M
 listed-at-spec =
-    tie.close (tie.spec is-all-requires number-at-requires returns at-requires returns-2)
+    tie.close (tie.spec (λ c κs. tt) (λ c κs. tt) returns (λ c κs. tt) returns-2)

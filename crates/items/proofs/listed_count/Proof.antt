@@ -1,12 +1,8 @@
 -- `items::listed_count` meets its contract. Assumes nothing.
-use borrow.Author.Needs.{needs}
 use mathlib.Core.Path.{sym, _∙_}
 use Rattle.items.proofs.Lists.{listed-all, listed-own}
 use Rattle.items.proofs.listed_count.Statement.{statement}
 use Rattle.items.proofs.listed_count.Tie as tie
-
-is-all-requires : tie.Need-is-all-requires
-is-all-requires c κs = search needs
 
 returns : tie.Need-returns
 returns c = rw (listed-all _ (sym (c .before .is-all .ensures) ∙ c .if1 .taken))
@@ -15,4 +11,4 @@ returns-2 : tie.Need-returns-2
 returns-2 c = rw (listed-own _ (sym (c .before .is-all .ensures) ∙ c .if1 .left))
 
 pub listed-count-spec : {M : Type 1} → statement M
-listed-count-spec = tie.close (tie.spec is-all-requires returns returns-2)
+listed-count-spec = tie.close (tie.spec (λ c κs. tt) returns returns-2)

@@ -1,5 +1,4 @@
 -- `modbus::read_group` meets its contract. Assumes nothing.
-use borrow.Author.Needs.{needs}
 use native.Mathlib.Omega.{arith}
 use mathlib.Core.Logic.{⊎-elim}
 use Rattle.model.specs.Refusals.{judged}
@@ -10,24 +9,6 @@ use Rattle.modbus.proofs.Ranges.{Unread, read-at-1, read-at-100, read-a
 -- every way to the last arm
 none : (c : tie.Joined1) → Unread (c .before .args .a)
 none c = ⊎-elim (λ w. omega arith) (⊎-elim (λ w. omega arith) (⊎-elim (λ w. omega arith) (⊎-elim (λ w. omega arith) (⊎-elim (λ w. omega arith) (λ w. omega arith))))) (c .if1 .came)
-
-read-port-requires : tie.Need-read-port-requires
-read-port-requires c κs = search needs
-
-read-counters-requires : tie.Need-read-counters-requires
-read-counters-requires c κs = search needs
-
-read-modes-requires : tie.Need-read-modes-requires
-read-modes-requires c κs = search needs
-
-read-outputs-requires : tie.Need-read-outputs-requires
-read-outputs-requires c κs = search needs
-
-read-thermostat-requires : tie.Need-read-thermostat-requires
-read-thermostat-requires c κs = search needs
-
-no-group-requires : tie.Need-no-group-requires
-no-group-requires c κs = search needs
 
 returns : tie.Need-returns
 returns c =
@@ -64,12 +45,12 @@ pub read-group-spec : {M : Type 1} → statement M
 read-group-spec =
     tie.close
     (tie.spec
-    read-port-requires
-    read-counters-requires
-    read-modes-requires
-    read-outputs-requires
-    read-thermostat-requires
-    no-group-requires
+    (λ c κs. tt)
+    (λ c κs. tt)
+    (λ c κs. tt)
+    (λ c κs. tt)
+    (λ c κs. tt)
+    (λ c κs. tt)
     returns
     returns-2
     returns-3

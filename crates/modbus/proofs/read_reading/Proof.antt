@@ -1,5 +1,4 @@
 -- `modbus::read_reading` meets its contract. Assumes nothing.
-use borrow.Author.Needs.{needs}
 use mathlib.Core.Path.{refl, sym, _∙_}
 use denote.Ref.{now}
 use Rattle.model.specs.Registers.{readingGroup, readWords}
@@ -10,30 +9,12 @@ use Rattle.modbus.proofs.read_reading.Statement.{statement}
 use Rattle.modbus.proofs.read_reading.Tie as tie
 use Rattle.bodies.proofs.Laws.{refused-8, passed-8}
 
-quantity-wrong-requires : tie.Need-quantity-wrong-requires
-quantity-wrong-requires c κs = search needs
-
-wrong-body-requires : tie.Need-wrong-body-requires
-wrong-body-requires c κs = search needs
-
 returns : tie.Need-returns
 unfolding readWords
 returns c =
     let a = c .before .before .before .before .args in
     let b = now (a .b) in
     c .wrong-body .ensures ∙ refused-8 (a .m) (readWords readingGroup (readingWords (a .m .reading)) (startOf b) (secondOf b) (a .m)) (quantityWrong 125 b) (sym (c .before .before .quantity-wrong .ensures) ∙ c .before .if1 .taken) (refl)
-
-word-from-requires : tie.Need-word-from-requires
-word-from-requires c κs = search needs
-
-word-from-requires-2 : tie.Need-word-from-requires-2
-word-from-requires-2 c κs = search needs
-
-read-input-requires : tie.Need-read-input-requires
-read-input-requires c κs = search needs
-
-told-requires : tie.Need-told-requires
-told-requires c κs = search needs
 
 returns-2 : tie.Need-returns-2
 unfolding readWords
@@ -52,11 +33,11 @@ pub read-reading-spec : {M : Type 1} → statement M
 read-reading-spec =
     tie.close
     (tie.spec
-    quantity-wrong-requires
-    wrong-body-requires
+    (λ c κs. tt)
+    (λ c κs. tt)
     returns
-    word-from-requires
-    word-from-requires-2
-    read-input-requires
-    told-requires
+    (λ c κs. tt)
+    (λ c κs. tt)
+    (λ c κs. tt)
+    (λ c κs. tt)
     returns-2)

@@ -1,19 +1,12 @@
 -- `modbus::read_thermostat` meets its contract. Assumes nothing.
-use borrow.Author.Needs.{needs}
 use Rattle.answers.proofs.Laws.{told-law}
 use Rattle.model.specs.Registers.{readThermostat}
 use Rattle.modbus.proofs.read_thermostat.Statement.{statement}
 use Rattle.modbus.proofs.read_thermostat.Tie as tie
-
-read-thermostat-requires : tie.Need-read-thermostat-requires
-read-thermostat-requires c κs = search needs
-
-told-requires : tie.Need-told-requires
-told-requires c κs = search needs
 
 returns : tie.Need-returns
 unfolding readThermostat
 returns c = rw (c .told .ensures, c .before .read-thermostat .ensures) (told-law _ tt _)
 
 pub read-thermostat-spec : {M : Type 1} → statement M
-read-thermostat-spec = tie.close (tie.spec read-thermostat-requires told-requires returns)
+read-thermostat-spec = tie.close (tie.spec (λ c κs. tt) (λ c κs. tt) returns)

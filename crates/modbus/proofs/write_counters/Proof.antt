@@ -1,5 +1,4 @@
 -- `modbus::write_counters` meets its contract. Assumes nothing.
-use borrow.Author.Needs.{needs}
 use denote.Ref.{now}
 use mathlib.Core.Path.{refl}
 use Rattle.answers.proofs.Laws.{part-law}
@@ -8,15 +7,6 @@ use Rattle.model.specs.Registers.{writeCounters}
 use Rattle.model.specs.State.{withInputs, withCounters}
 use Rattle.modbus.proofs.write_counters.Statement.{statement}
 use Rattle.modbus.proofs.write_counters.Tie as tie
-
-write-counters-requires : tie.Need-write-counters-requires
-write-counters-requires c κs = search needs
-
-empty-requires : tie.Need-empty-requires
-empty-requires c κs = search needs
-
-put-counters-requires : tie.Need-put-counters-requires
-put-counters-requires c κs = search needs
 
 returns : tie.Need-returns
 unfolding writeCounters
@@ -27,4 +17,4 @@ returns c =
 
 pub write-counters-spec : {M : Type 1} → statement M
 write-counters-spec =
-    tie.close (tie.spec write-counters-requires empty-requires put-counters-requires returns)
+    tie.close (tie.spec (λ c κs. tt) (λ c κs. tt) (λ c κs. tt) returns)

@@ -1,5 +1,4 @@
 -- `modbus::write_port` meets its contract. Assumes nothing.
-use borrow.Author.Needs.{needs}
 use denote.Ref.{now}
 use mathlib.Core.Path.{refl}
 use Rattle.answers.proofs.Laws.{part-law}
@@ -8,12 +7,6 @@ use Rattle.model.specs.Registers.{writePort}
 use Rattle.modbus.proofs.write_port.Statement.{statement}
 use Rattle.modbus.proofs.write_port.Tie as tie
 
-write-port-requires : tie.Need-write-port-requires
-write-port-requires c κs = search needs
-
-bare-requires : tie.Need-bare-requires
-bare-requires c κs = search needs
-
 returns : tie.Need-returns
 unfolding writePort
 returns c =
@@ -21,4 +14,4 @@ returns c =
     rw (c .bare .ensures, c .before .before .write-port .ensures) (part-law (λ x. x) (a .m) (writePort (a .permitted) (a .a) (words (now (a .d))) (a .m)) refl)
 
 pub write-port-spec : {M : Type 1} → statement M
-write-port-spec = tie.close (tie.spec write-port-requires bare-requires returns)
+write-port-spec = tie.close (tie.spec (λ c κs. tt) (λ c κs. tt) returns)

@@ -1,5 +1,4 @@
 -- `modbus::write_pulse` meets its contract. Assumes nothing.
-use borrow.Author.Needs.{needs}
 use denote.Ref.{now}
 use mathlib.Core.Path.{refl}
 use Rattle.answers.proofs.Laws.{part-law}
@@ -10,12 +9,6 @@ use Rattle.model.specs.State.{withOutputs}
 use Rattle.modbus.proofs.write_pulse.Statement.{statement}
 use Rattle.modbus.proofs.write_pulse.Tie as tie
 
-write-pulse-requires : tie.Need-write-pulse-requires
-write-pulse-requires c κs = search needs
-
-put-outputs-requires : tie.Need-put-outputs-requires
-put-outputs-requires c κs = search needs
-
 returns : tie.Need-returns
 unfolding writePulse pulseOutputs actOn
 returns c =
@@ -23,4 +16,4 @@ returns c =
     rw (c .put-outputs .ensures, c .before .before .write-pulse .ensures) (part-law (withOutputs (a .m)) (a .m .outputs) (writePulse (a .m .reading) (a .m .thermostats) (a .a) (words (now (a .d))) (a .m .outputs)) refl)
 
 pub write-pulse-spec : {M : Type 1} → statement M
-write-pulse-spec = tie.close (tie.spec write-pulse-requires put-outputs-requires returns)
+write-pulse-spec = tie.close (tie.spec (λ c κs. tt) (λ c κs. tt) returns)

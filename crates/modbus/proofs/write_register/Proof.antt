@@ -20,9 +20,6 @@ use Rattle.lists.proofs.ChunkLaws.{rest-whole}
 use Rattle.modbus.proofs.Bodies.{one-word}
 use Rattle.modbus.proofs.Ranges.{writes-listed}
 
-wrong-body-requires : tie.Need-wrong-body-requires
-wrong-body-requires c κs = search needs
-
 returns : tie.Need-returns
 unfolding registerWritten
 returns c =
@@ -31,24 +28,6 @@ returns c =
     c .wrong-body .ensures
     ∙ refused-8 (a .m) (answering b (registersWritten (a .permitted) true (startOf b) (secondOf b ∷ []) (a .m))) (not (eqb (length b) 4)) (ap not (ne-eqb (length b) 4 (c .before .if1 .taken)))
     (writes-listed (a .permitted) true (startOf b) (secondOf b ∷ []) (a .m))
-
-word-from-requires : tie.Need-word-from-requires
-word-from-requires c κs = search needs
-
-sub-write-group : tie.Need-sub-write-group
-sub-write-group c = search needs
-
-part-write-group-start : tie.Need-part-write-group-start
-part-write-group-start c = search needs
-
-part-write-group-end : tie.Need-part-write-group-end
-part-write-group-end c = search needs
-
-write-group-requires : tie.Need-write-group-requires
-write-group-requires c κs = search needs
-
-echo-requires : tie.Need-echo-requires
-echo-requires c κs = search needs
 
 returns-2 : tie.Need-returns-2
 unfolding registerWritten
@@ -68,12 +47,12 @@ pub write-register-spec : {M : Type 1} → statement M
 write-register-spec =
     tie.close
     (tie.spec
-    wrong-body-requires
+    (λ c κs. tt)
     returns
-    word-from-requires
-    sub-write-group
-    part-write-group-start
-    part-write-group-end
-    write-group-requires
-    echo-requires
+    (λ c κs. tt)
+    (λ c. search needs)
+    (λ c. search needs)
+    (λ c. search needs)
+    (λ c κs. tt)
+    (λ c κs. tt)
     returns-2)

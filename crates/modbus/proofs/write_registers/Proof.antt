@@ -20,21 +20,6 @@ use Rattle.modbus.proofs.Ranges.{writes-listed}
 long : (c : tie.Else1) → 5 ≤ length (now (c .before .before .before .before .args .b))
 long c = omega (arith, counted 123 _ _ (sym (c .before .count-wrong .ensures) ∙ c .if1 .left))
 
-word-from-requires : tie.Need-word-from-requires
-word-from-requires c κs = search needs
-
-cast-size : tie.Need-cast-size
-cast-size c = search needs
-
-mul-size : tie.Need-mul-size
-mul-size c = search needs
-
-count-wrong-requires : tie.Need-count-wrong-requires
-count-wrong-requires c κs = search needs
-
-wrong-body-requires : tie.Need-wrong-body-requires
-wrong-body-requires c κs = search needs
-
 returns : tie.Need-returns
 unfolding severalWritten
 returns c =
@@ -46,24 +31,6 @@ returns c =
     c .wrong-body .ensures
     ∙ refused-8 (a .m) (answering (take 4 b) q) (countWrong 123 (2 * secondOf b) b) (sym (rw (n .word-from .ensures) at (k .count-wrong .ensures)) ∙ c .before .if1 .taken)
     (writes-listed (a .permitted) false (startOf b) (words (drop 5 b)) (a .m))
-
-word-from-requires-2 : tie.Need-word-from-requires-2
-word-from-requires-2 c κs = search needs
-
-sub-write-group : tie.Need-sub-write-group
-sub-write-group c = long (c .before)
-
-part-write-group-start : tie.Need-part-write-group-start
-part-write-group-start c = omega (arith, long (c .before))
-
-part-write-group-end : tie.Need-part-write-group-end
-part-write-group-end c = search needs
-
-write-group-requires : tie.Need-write-group-requires
-write-group-requires c κs = search needs
-
-echo-requires : tie.Need-echo-requires
-echo-requires c κs = search needs
 
 returns-2 : tie.Need-returns-2
 unfolding severalWritten
@@ -85,16 +52,16 @@ pub write-registers-spec : {M : Type 1} → statement M
 write-registers-spec =
     tie.close
     (tie.spec
-    word-from-requires
-    cast-size
-    mul-size
-    count-wrong-requires
-    wrong-body-requires
+    (λ c κs. tt)
+    (λ c. search needs)
+    (λ c. search needs)
+    (λ c κs. tt)
+    (λ c κs. tt)
     returns
-    word-from-requires-2
-    sub-write-group
-    part-write-group-start
-    part-write-group-end
-    write-group-requires
-    echo-requires
+    (λ c κs. tt)
+    (λ c. long (c .before))
+    (λ c. omega (arith, long (c .before)))
+    (λ c. search needs)
+    (λ c κs. tt)
+    (λ c κs. tt)
     returns-2)

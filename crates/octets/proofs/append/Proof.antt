@@ -22,29 +22,11 @@ abbrev μ-loop : tie.MeasureT-loop
 full : (c : tie.Start Inv-loop μ-loop) → length (c .args .t2 .bytes) ≡ 256
 full c = field-length (c .args .t2 .bytes) (search needs)
 
-within-array-requires : tie.Need-within-array-requires Inv-loop μ-loop
-within-array-requires c κs = search needs
-
 loop-holds : tie.Need-loop-holds Inv-loop μ-loop
 loop-holds c =
     let b = c .before .args .t2 in
     let n = c .within-array .ensures in
     (omega arith, omega (arith, n, min-le-right (b .len) 256), rw (n, take-limited (b .len) 256 (b .bytes) (full (c .before))))
-
-element-copy-out-out : tie.Need-element-copy-out-out Inv-loop μ-loop
-element-copy-out-out c = search needs
-
-element-write-out : tie.Need-element-write-out Inv-loop μ-loop
-element-write-out c = search needs
-
-add-out : tie.Need-add-out Inv-loop μ-loop
-add-out c = search needs
-
-add-i : tie.Need-add-i Inv-loop μ-loop
-add-i c = search needs
-
-loop-less : tie.Need-loop-less Inv-loop μ-loop
-loop-less c = search needs
 
 -- one turn is a push
 stored : (c : tie.Joined1 Inv-loop μ-loop)
@@ -75,12 +57,12 @@ append-spec =
     (tie.spec
     Inv-loop
     μ-loop
-    within-array-requires
+    (λ c κs. tt)
     loop-holds
-    element-copy-out-out
-    element-write-out
-    add-out
-    add-i
-    loop-less
+    (λ c. search needs)
+    (λ c. search needs)
+    (λ c. search needs)
+    (λ c. search needs)
+    (λ c. search needs)
     loop-again
     returns)

@@ -6,14 +6,8 @@ use lib.ListN.{List·getD-eq-default}
 use Rattle.octets.proofs.at.Statement.{statement}
 use Rattle.octets.proofs.at.Tie as tie
 
-shared-slice-read-result : tie.Need-shared-slice-read-result
-shared-slice-read-result c = search needs
-
-returns : tie.Need-returns
-returns c = search needs
-
 returns-2 : tie.Need-returns-2
 returns-2 c = sym (List·getD-eq-default (now (c .before .args .d)) 0 (c .if1 .left))
 
 pub at-spec : {M : Type 1} → statement M
-at-spec = tie.close (tie.spec shared-slice-read-result returns returns-2)
+at-spec = tie.close (tie.spec (λ c. search needs) (λ c. search needs) returns-2)

@@ -4,9 +4,6 @@ use Rattle.octets.proofs.NoNan.{eq-number, ne-nan}
 use Rattle.octets.proofs.float_bits.Statement.{statement}
 use Rattle.octets.proofs.float_bits.Tie as tie
 
-float-to-bits-result : tie.Need-float-to-bits-result
-float-to-bits-result c = rw (eq-number (c .before .args .x) (c .if1 .taken)) tt
-
 returns : tie.Need-returns
 unfolding floatBits
 returns c = rw (eq-number (c .before .args .x) (c .if1 .taken))
@@ -16,4 +13,4 @@ unfolding floatBits
 returns-2 c = rw (ne-nan (c .before .args .x) (c .if1 .left))
 
 pub float-bits-spec : {M : Type 1} → statement M
-float-bits-spec = tie.close (tie.spec float-to-bits-result returns returns-2)
+float-bits-spec = tie.close (tie.spec (λ c. rw (eq-number (c .before .args .x) (c .if1 .taken)) tt) returns returns-2)

@@ -40,8 +40,5 @@ cast-result c =
     let s = c .before in
     rw (read-back c) (tt, omega (arith, pattern-small (s .args .x) (s .fits .x)))
 
-returns-2 : tie.Need-returns-2
-returns-2 c = rw (read-back c)
-
 pub pattern-of-spec : {M : Type 1} → statement M
-pattern-of-spec = tie.close (tie.spec cast-k sub-result returns cast-result returns-2)
+pattern-of-spec = tie.close (tie.spec cast-k sub-result returns cast-result (λ c. rw (read-back c)))

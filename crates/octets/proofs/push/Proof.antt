@@ -5,12 +5,6 @@ use borrow.Author.Tests.{lt-ltb, le-ltb}
 use Rattle.octets.proofs.push.Statement.{statement}
 use Rattle.octets.proofs.push.Tie as tie
 
-element-write-next : tie.Need-element-write-next
-element-write-next c = search needs
-
-add-next : tie.Need-add-next
-add-next c = search needs
-
 returns : tie.Need-returns
 unfolding pushed
 returns c = rw (lt-ltb _ _ (c .if1 .taken))
@@ -20,4 +14,4 @@ unfolding pushed
 returns-2 c = rw (le-ltb _ _ (c .if1 .left))
 
 pub push-spec : {M : Type 1} → statement M
-push-spec = tie.close (tie.spec element-write-next add-next returns returns-2)
+push-spec = tie.close (tie.spec (λ c. search needs) (λ c. search needs) returns returns-2)

@@ -9,18 +9,9 @@ use Rattle.model.specs.Temperature.{signedOf}
 use Rattle.octets.proofs.signed_of.Statement.{statement}
 use Rattle.octets.proofs.signed_of.Tie as tie
 
-cast-result : tie.Need-cast-result
-cast-result c = search needs
-
 returns : tie.Need-returns
 unfolding signedOf
 returns c = simp (lt-ltb _ _ (c .if1 .taken))
-
-sub-k : tie.Need-sub-k
-sub-k c = search needs
-
-cast-m : tie.Need-cast-m
-cast-m c = search needs
 
 returns-2 : tie.Need-returns-2
 unfolding signedOf
@@ -30,4 +21,4 @@ returns-2 c =
     rw e (simp (le-ltb n 32768 (c .if1 .left)) (ap negsuc (omega arith)))
 
 pub signed-of-spec : {M : Type 1} → statement M
-signed-of-spec = tie.close (tie.spec cast-result returns sub-k cast-m returns-2)
+signed-of-spec = tie.close (tie.spec (λ c. search needs) returns (λ c. search needs) (λ c. search needs) returns-2)

@@ -6,14 +6,8 @@ use lib.Seq.{set-out}
 use Rattle.octets.proofs.with_byte.Statement.{statement}
 use Rattle.octets.proofs.with_byte.Tie as tie
 
-array-write-next : tie.Need-array-write-next
-array-write-next c = search needs
-
-returns : tie.Need-returns
-returns c = search needs
-
 returns-2 : tie.Need-returns-2
 returns-2 c = sym (set-out (c .before .args .bs) (c .before .args .k) (c .before .args .v) (omega arith))
 
 pub with-byte-spec : {M : Type 1} → statement M
-with-byte-spec = tie.close (tie.spec array-write-next returns returns-2)
+with-byte-spec = tie.close (tie.spec (λ c. search needs) (λ c. search needs) returns-2)

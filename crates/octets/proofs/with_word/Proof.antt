@@ -6,17 +6,8 @@ use lib.Seq.{set-out}
 use Rattle.octets.proofs.with_word.Statement.{statement}
 use Rattle.octets.proofs.with_word.Tie as tie
 
-mul-next : tie.Need-mul-next
-mul-next c = search needs
-
-array-write-next : tie.Need-array-write-next
-array-write-next c = search needs
-
-returns : tie.Need-returns
-returns c = search needs
-
 returns-2 : tie.Need-returns-2
 returns-2 c = sym (set-out (c .before .args .cs) (c .before .args .k) (c .before .args .v) (omega arith))
 
 pub with-word-spec : {M : Type 1} → statement M
-with-word-spec = tie.close (tie.spec mul-next array-write-next returns returns-2)
+with-word-spec = tie.close (tie.spec (λ c. search needs) (λ c. search needs) (λ c. search needs) returns-2)

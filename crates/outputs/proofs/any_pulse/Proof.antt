@@ -14,21 +14,6 @@ Inv-loop a found₀ i₀ found i = (i ≤ 16) × (found ≡ someBelow (pulseAt a
 abbrev μ-loop : tie.MeasureT-loop
 μ-loop a found₀ i₀ found i = 16 - i
 
-loop-holds : tie.Need-loop-holds Inv-loop μ-loop
-loop-holds c = (omega arith, some-none _)
-
-mul-o : tie.Need-mul-o Inv-loop μ-loop
-mul-o c = omega arith
-
-array-copy-out-o : tie.Need-array-copy-out-o Inv-loop μ-loop
-array-copy-out-o c = omega arith
-
-add-i : tie.Need-add-i Inv-loop μ-loop
-add-i c = omega arith
-
-loop-less : tie.Need-loop-less Inv-loop μ-loop
-loop-less c = omega arith
-
 loop-again : tie.Need-loop-again Inv-loop μ-loop
 loop-again c =
     let p = c .before .before .before in
@@ -43,4 +28,4 @@ returns c =
 pub any-pulse-spec : {M : Type 1} → statement M
 any-pulse-spec =
     tie.close
-    (tie.spec Inv-loop μ-loop loop-holds mul-o array-copy-out-o add-i loop-less loop-again returns)
+    (tie.spec Inv-loop μ-loop (λ c. (omega arith, some-none _)) (λ c. omega arith) (λ c. omega arith) (λ c. omega arith) (λ c. omega arith) loop-again returns)

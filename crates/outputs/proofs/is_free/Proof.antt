@@ -7,12 +7,6 @@ use Rattle.lists.proofs.Choices.{below}
 use Rattle.outputs.proofs.is_free.Statement.{statement}
 use Rattle.outputs.proofs.is_free.Tie as tie
 
-enum-known-r : tie.Need-enum-known-r
-enum-known-r c = search needs
-
-enum-told : tie.Need-enum-told
-enum-told c = search needs
-
 returns : tie.Need-returns
 unfolding free
 returns c =
@@ -28,4 +22,4 @@ unfolding free
 returns-2 c = rw (c .enum-told .given .1, below (c .before .before .before .args .h .flags) 128)
 
 pub is-free-spec : {M : Type 1} → statement M
-is-free-spec = tie.close (tie.spec enum-known-r enum-told returns returns-2)
+is-free-spec = tie.close (tie.spec (λ c. search needs) (λ c. search needs) returns returns-2)

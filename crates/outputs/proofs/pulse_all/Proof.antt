@@ -20,30 +20,6 @@ abbrev μ-loop : tie.MeasureT-loop
 long : (c : tie.Start Inv-loop μ-loop) → length (c .args .a) ≡ 16
 long c = search needs
 
-loop-holds : tie.Need-loop-holds Inv-loop μ-loop
-loop-holds c = (omega arith, sym (done-none _ _))
-
-mul-o : tie.Need-mul-o Inv-loop μ-loop
-mul-o c = omega arith
-
-array-copy-out-o : tie.Need-array-copy-out-o Inv-loop μ-loop
-array-copy-out-o c = omega arith
-
-pulse-requires : tie.Need-pulse-requires Inv-loop μ-loop
-pulse-requires c κs = search needs
-
-mul-next : tie.Need-mul-next Inv-loop μ-loop
-mul-next c = omega arith
-
-array-set-from-next : tie.Need-array-set-from-next Inv-loop μ-loop
-array-set-from-next c = omega arith
-
-add-i : tie.Need-add-i Inv-loop μ-loop
-add-i c = omega arith
-
-loop-less : tie.Need-loop-less Inv-loop μ-loop
-loop-less c = omega arith
-
 loop-again : tie.Need-loop-again Inv-loop μ-loop
 loop-again c =
     let p = c .before .before .before in
@@ -62,13 +38,13 @@ pulse-all-spec =
     (tie.spec
     Inv-loop
     μ-loop
-    loop-holds
-    mul-o
-    array-copy-out-o
-    pulse-requires
-    mul-next
-    array-set-from-next
-    add-i
-    loop-less
+    (λ c. (omega arith, sym (done-none _ _)))
+    (λ c. omega arith)
+    (λ c. omega arith)
+    (λ c κs. tt)
+    (λ c. omega arith)
+    (λ c. omega arith)
+    (λ c. omega arith)
+    (λ c. omega arith)
     loop-again
     returns)

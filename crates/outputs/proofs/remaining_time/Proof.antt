@@ -12,12 +12,6 @@ returns c =
     let more : 255 < (c .before .args .left + 499) / 500 = omega arith in
     rw (lt-ltb 255 ((c .before .args .left + 499) / 500) more)
 
-add-result : tie.Need-add-result
-add-result c = search needs
-
-cast-result : tie.Need-cast-result
-cast-result c = search needs
-
 returns-2 : tie.Need-returns-2
 unfolding remaining
 returns-2 c =
@@ -25,4 +19,4 @@ returns-2 c =
     rw (le-ltb 255 ((c .before .args .left + 499) / 500) few)
 
 pub remaining-time-spec : {M : Type 1} → statement M
-remaining-time-spec = tie.close (tie.spec returns add-result cast-result returns-2)
+remaining-time-spec = tie.close (tie.spec returns (λ c. search needs) (λ c. search needs) returns-2)

@@ -10,19 +10,10 @@ use Rattle.outputs.proofs.thermostat_at.Tie as tie
 long : (c : tie.Start) → length (c .args .t1) ≡ 16
 long c = search needs
 
-mul-h : tie.Need-mul-h
-mul-h c = search needs
-
-array-copy-out-h : tie.Need-array-copy-out-h
-array-copy-out-h c = search needs
-
-returns : tie.Need-returns
-returns c = search needs
-
 returns-2 : tie.Need-returns-2
 returns-2 c =
     let s = c .before in
     sym (List·getD-eq-default (s .args .t1) freshThermostat (rw (long s) (omega arith)))
 
 pub thermostat-at-spec : {M : Type 1} → statement M
-thermostat-at-spec = tie.close (tie.spec mul-h array-copy-out-h returns returns-2)
+thermostat-at-spec = tie.close (tie.spec (λ c. search needs) (λ c. search needs) (λ c. search needs) returns-2)

@@ -25,21 +25,6 @@ abbrev μ-loop : tie.MeasureT-loop
 long : (c : tie.Start Inv-loop μ-loop) → length (c .args .t1) ≡ 16
 long c = search needs
 
-loop-holds : tie.Need-loop-holds Inv-loop μ-loop
-loop-holds c = (omega arith, bits-none on (c .args .t1) (long c))
-
-sub-i : tie.Need-sub-i Inv-loop μ-loop
-sub-i c = omega arith
-
-mul-o : tie.Need-mul-o Inv-loop μ-loop
-mul-o c = omega arith
-
-array-copy-out-o : tie.Need-array-copy-out-o Inv-loop μ-loop
-array-copy-out-o c = omega arith
-
-cast-s : tie.Need-cast-s Inv-loop μ-loop
-cast-s c = tt
-
 mul-bits : tie.Need-mul-bits Inv-loop μ-loop
 mul-bits c =
     let l = c .before .before in
@@ -52,9 +37,6 @@ add-bits c =
     let s = l .before .before in
     let i = l .before .loop .i in
     omega (arith, l .before .loop .inv, bits-half on (s .args .t1) i (long s) (l .loop-test .taken), byte-most (getD (s .args .t1) (i - 1) freshOutput .on))
-
-loop-less : tie.Need-loop-less Inv-loop μ-loop
-loop-less c = omega arith
 
 loop-again : tie.Need-loop-again Inv-loop μ-loop
 loop-again c =
@@ -74,13 +56,13 @@ output-bits-spec =
     (tie.spec
     Inv-loop
     μ-loop
-    loop-holds
-    sub-i
-    mul-o
-    array-copy-out-o
-    cast-s
+    (λ c. (omega arith, bits-none on (c .args .t1) (long c)))
+    (λ c. omega arith)
+    (λ c. omega arith)
+    (λ c. omega arith)
+    (λ c. tt)
     mul-bits
     add-bits
-    loop-less
+    (λ c. omega arith)
     loop-again
     returns)

@@ -1,27 +1,14 @@
 -- `readouts::read_states` meets its contract: two bytes, or none. Assumes nothing.
 use borrow.Author.Tests.{eq-eqb, ne-eqb}
-use borrow.Author.Needs.{needs}
 use Rattle.model.specs.Refusals.{judged}
 use Rattle.readouts.specs.Answers.{statesTold}
 use Rattle.readouts.proofs.States.{states-gathered}
 use Rattle.readouts.proofs.read_states.Statement.{statement}
 use Rattle.readouts.proofs.read_states.Tie as tie
 
-refuse-requires : tie.Need-refuse-requires
-refuse-requires c κs = search needs
-
 returns : tie.Need-returns
 unfolding statesTold judged
 returns c = rw (c .refuse .ensures, ne-eqb _ _ (c .before .if1 .taken))
-
-empty-requires : tie.Need-empty-requires
-empty-requires c κs = search needs
-
-push16-requires : tie.Need-push16-requires
-push16-requires c κs = search needs
-
-tell-requires : tie.Need-tell-requires
-tell-requires c κs = search needs
 
 returns-2 : tie.Need-returns-2
 unfolding statesTold judged
@@ -32,4 +19,4 @@ returns-2 c =
 pub read-states-spec : {M : Type 1} → statement M
 read-states-spec =
     tie.close
-    (tie.spec refuse-requires returns empty-requires push16-requires tell-requires returns-2)
+    (tie.spec (λ c κs. tt) returns (λ c κs. tt) (λ c κs. tt) (λ c κs. tt) returns-2)

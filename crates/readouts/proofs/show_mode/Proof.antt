@@ -6,26 +6,11 @@ use Rattle.model.specs.Outputs.{modeByte}
 use Rattle.readouts.proofs.show_mode.Statement.{statement}
 use Rattle.readouts.proofs.show_mode.Tie as tie
 
-thermostat-at-requires : tie.Need-thermostat-at-requires
-thermostat-at-requires c κs = search needs
-
-add-push : tie.Need-add-push
-add-push c = search needs
-
-push-requires : tie.Need-push-requires
-push-requires c κs = search needs
-
 returns : tie.Need-returns
 unfolding modeByte extended
 returns c =
     let t = c .before in
     rw (c .push .ensures, ← t .before .thermostat-at .ensures, le-leb _ _ (t .if1 .taken))
-
-preset-at-requires : tie.Need-preset-at-requires
-preset-at-requires c κs = search needs
-
-push-requires-2 : tie.Need-push-requires-2
-push-requires-2 c κs = search needs
 
 returns-2 : tie.Need-returns-2
 unfolding modeByte extended
@@ -37,10 +22,10 @@ pub show-mode-spec : {M : Type 1} → statement M
 show-mode-spec =
     tie.close
     (tie.spec
-    thermostat-at-requires
-    add-push
-    push-requires
+    (λ c κs. tt)
+    (λ c. search needs)
+    (λ c κs. tt)
     returns
-    preset-at-requires
-    push-requires-2
+    (λ c κs. tt)
+    (λ c κs. tt)
     returns-2)

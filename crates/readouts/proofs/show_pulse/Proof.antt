@@ -12,22 +12,10 @@ use Rattle.readouts.proofs.show_pulse.Tie as tie
 long : (c : tie.Start) → length (c .args .os) ≡ 16
 long c = search needs
 
-output-at-requires : tie.Need-output-at-requires
-output-at-requires c κs = search needs
-
 set-byte-requires : tie.Need-set-byte-requires
 set-byte-requires c κs =
     let s = c .before in
     rw (c .output-at .ensures) (set-fits (s .args .os) (s .args .n) (long s) (omega arith))
-
-push-requires : tie.Need-push-requires
-push-requires c κs = search needs
-
-remaining-time-requires : tie.Need-remaining-time-requires
-remaining-time-requires c κs = search needs
-
-push-requires-2 : tie.Need-push-requires-2
-push-requires-2 c κs = search needs
 
 returns : tie.Need-returns
 unfolding pulseShown extended
@@ -39,9 +27,9 @@ pub show-pulse-spec : {M : Type 1} → statement M
 show-pulse-spec =
     tie.close
     (tie.spec
-    output-at-requires
+    (λ c κs. tt)
     set-byte-requires
-    push-requires
-    remaining-time-requires
-    push-requires-2
+    (λ c κs. tt)
+    (λ c κs. tt)
+    (λ c κs. tt)
     returns)

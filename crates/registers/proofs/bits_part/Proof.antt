@@ -6,12 +6,6 @@ use Rattle.registers.proofs.Bits.{part-small}
 use Rattle.registers.proofs.bits_part.Statement.{statement}
 use Rattle.registers.proofs.bits_part.Tie as tie
 
-power-requires : tie.Need-power-requires
-power-requires c κs = omega (arith, c .pre)
-
-power-requires-2 : tie.Need-power-requires-2
-power-requires-2 c κs = omega (arith, c .before .pre)
-
 div-result : tie.Need-div-result
 div-result c = omega (arith, c .before .power .ensures, pow-pos (c .before .before .args .k))
 
@@ -29,4 +23,4 @@ returns c = rw (c .before .power .ensures, c .power2 .ensures)
 
 pub bits-part-spec : {M : Type 1} → statement M
 bits-part-spec =
-    tie.close (tie.spec power-requires power-requires-2 div-result rem-result cast-result returns)
+    tie.close (tie.spec (λ c κs. omega (arith, c .pre)) (λ c κs. omega (arith, c .before .pre)) div-result rem-result cast-result returns)

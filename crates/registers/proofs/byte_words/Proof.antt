@@ -20,27 +20,6 @@ abbrev μ-loop : tie.MeasureT-loop
 long : (c : tie.Start Inv-loop μ-loop) → length (c .args .bs) ≡ 16
 long c = search needs
 
-loop-holds : tie.Need-loop-holds Inv-loop μ-loop
-loop-holds c = (omega arith, refl)
-
-byte-at-requires : tie.Need-byte-at-requires Inv-loop μ-loop
-byte-at-requires c κs = search needs
-
-cast-words : tie.Need-cast-words Inv-loop μ-loop
-cast-words c = search needs
-
-mul-words : tie.Need-mul-words Inv-loop μ-loop
-mul-words c = omega arith
-
-array-write-words : tie.Need-array-write-words Inv-loop μ-loop
-array-write-words c = omega arith
-
-add-i : tie.Need-add-i Inv-loop μ-loop
-add-i c = omega arith
-
-loop-less : tie.Need-loop-less Inv-loop μ-loop
-loop-less c = omega arith
-
 loop-again : tie.Need-loop-again Inv-loop μ-loop
 loop-again c =
     let l = c .before .before in
@@ -60,12 +39,12 @@ byte-words-spec =
     (tie.spec
     Inv-loop
     μ-loop
-    loop-holds
-    byte-at-requires
-    cast-words
-    mul-words
-    array-write-words
-    add-i
-    loop-less
+    (λ c. (omega arith, refl))
+    (λ c κs. tt)
+    (λ c. search needs)
+    (λ c. omega arith)
+    (λ c. omega arith)
+    (λ c. omega arith)
+    (λ c. omega arith)
     loop-again
     returns)

@@ -25,30 +25,6 @@ outputs-long c = search needs
 long : (c : tie.Start Inv-loop μ-loop) → length (map outputWord (c .args .t1)) ≡ 16
 long c = length-map (c .args .t1) outputWord ∙ outputs-long c
 
-loop-holds : tie.Need-loop-holds Inv-loop μ-loop
-loop-holds c = (omega arith, refl)
-
-mul-o : tie.Need-mul-o Inv-loop μ-loop
-mul-o c = omega arith
-
-array-copy-out-o : tie.Need-array-copy-out-o Inv-loop μ-loop
-array-copy-out-o c = omega arith
-
-output-word-requires : tie.Need-output-word-requires Inv-loop μ-loop
-output-word-requires c κs = search needs
-
-mul-words : tie.Need-mul-words Inv-loop μ-loop
-mul-words c = omega arith
-
-array-write-words : tie.Need-array-write-words Inv-loop μ-loop
-array-write-words c = omega arith
-
-add-i : tie.Need-add-i Inv-loop μ-loop
-add-i c = omega arith
-
-loop-less : tie.Need-loop-less Inv-loop μ-loop
-loop-less c = omega arith
-
 loop-again : tie.Need-loop-again Inv-loop μ-loop
 loop-again c =
     let l = c .before .before .before in
@@ -68,13 +44,13 @@ output-words-spec =
     (tie.spec
     Inv-loop
     μ-loop
-    loop-holds
-    mul-o
-    array-copy-out-o
-    output-word-requires
-    mul-words
-    array-write-words
-    add-i
-    loop-less
+    (λ c. (omega arith, refl))
+    (λ c. omega arith)
+    (λ c. omega arith)
+    (λ c κs. tt)
+    (λ c. omega arith)
+    (λ c. omega arith)
+    (λ c. omega arith)
+    (λ c. omega arith)
     loop-again
     returns)

@@ -15,20 +15,11 @@ Inv-loop n p₀ i₀ p i = (i ≤ n) × (p ≡ 2 ^ i)
 abbrev μ-loop : tie.MeasureT-loop
 μ-loop n p₀ i₀ p i = n - i
 
-loop-holds : tie.Need-loop-holds Inv-loop μ-loop
-loop-holds c = (omega arith, refl)
-
 mul-p : tie.Need-mul-p Inv-loop μ-loop
 mul-p c =
     let l = c .before in
     let most : 2 ^ l .loop .i ≤ 2 ^ 16 = pow-mono {j = 16} (omega (arith, l .before .pre)) in
     omega (arith, l .loop .inv .1, most)
-
-add-i : tie.Need-add-i Inv-loop μ-loop
-add-i c = search needs
-
-loop-less : tie.Need-loop-less Inv-loop μ-loop
-loop-less c = search needs
 
 loop-again : tie.Need-loop-again Inv-loop μ-loop
 loop-again c = (omega arith, rw (c .before .loop .inv .1, add-one, pow-suc))
@@ -40,4 +31,4 @@ returns c =
 
 pub power-spec : {M : Type 1} → statement M
 power-spec =
-    tie.close (tie.spec Inv-loop μ-loop loop-holds mul-p add-i loop-less loop-again returns)
+    tie.close (tie.spec Inv-loop μ-loop (λ c. (omega arith, refl)) mul-p (λ c. search needs) (λ c. search needs) loop-again returns)

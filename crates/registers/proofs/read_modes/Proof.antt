@@ -3,8 +3,5 @@ use native.Mathlib.Omega.{arith}
 use Rattle.registers.proofs.read_modes.Statement.{statement}
 use Rattle.registers.proofs.read_modes.Tie as tie
 
-returns : tie.Need-returns
-returns c = rw (c .tell-words .ensures, c .before .byte-words .ensures)
-
 pub read-modes-spec : {M : Type 1} → statement M
-read-modes-spec = tie.close (tie.spec (λ c κs. tt) (λ c κs. omega arith) returns)
+read-modes-spec = tie.close (tie.spec (λ c κs. tt) (λ c κs. omega arith) (λ c. rw (c .tell-words .ensures, c .before .byte-words .ensures)))

@@ -7,30 +7,6 @@ use Rattle.model.specs.Temperature.{readingWords}
 use Rattle.registers.proofs.reading_words.Statement.{statement}
 use Rattle.registers.proofs.reading_words.Tie as tie
 
-enum-known-reading : tie.Need-enum-known-reading
-enum-known-reading c = search needs
-
-float-words-requires : tie.Need-float-words-requires
-float-words-requires c κs = search needs
-
-pattern-of-requires : tie.Need-pattern-of-requires
-pattern-of-requires c κs = search needs
-
-array-write-words : tie.Need-array-write-words
-array-write-words c = search needs
-
-array-write-words-2 : tie.Need-array-write-words-2
-array-write-words-2 c = search needs
-
-array-write-words-3 : tie.Need-array-write-words-3
-array-write-words-3 c = search needs
-
-enum-told : tie.Need-enum-told
-enum-told c = search needs
-
-array-write-words-4 : tie.Need-array-write-words-4
-array-write-words-4 c = search needs
-
 returns : tie.Need-returns
 unfolding readingWords
 returns c =
@@ -46,13 +22,13 @@ pub reading-words-spec : {M : Type 1} → statement M
 reading-words-spec =
     tie.close
     (tie.spec
-    enum-known-reading
-    float-words-requires
-    pattern-of-requires
-    array-write-words
-    array-write-words-2
-    array-write-words-3
-    enum-told
-    array-write-words-4
+    (λ c. search needs)
+    (λ c κs. tt)
+    (λ c κs. tt)
+    (λ c. search needs)
+    (λ c. search needs)
+    (λ c. search needs)
+    (λ c. search needs)
+    (λ c. search needs)
     returns
     returns-2)

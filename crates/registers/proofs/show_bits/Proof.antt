@@ -7,30 +7,12 @@ use Rattle.registers.proofs.Bits.{shown-0, shown-1, shown-2}
 use Rattle.registers.proofs.show_bits.Statement.{statement}
 use Rattle.registers.proofs.show_bits.Tie as tie
 
-empty-requires : tie.Need-empty-requires
-empty-requires c κs = search needs
-
-add-push : tie.Need-add-push
-add-push c = search needs
-
-cast-push : tie.Need-cast-push
-cast-push c = search needs
-
-push-requires : tie.Need-push-requires
-push-requires c κs = search needs
-
 returns : tie.Need-returns
 returns c =
     let p = c .before in
     let n = p .before .before .args .n in
     let e : (n + 7) / 8 ≡ 0 = omega (arith, c .if1 .taken) in
     rw (p .push .ensures, p .before .empty .ensures) (shown-0 (p .before .before .args .v) n e)
-
-low-byte-requires : tie.Need-low-byte-requires
-low-byte-requires c κs = search needs
-
-push-requires-2 : tie.Need-push-requires-2
-push-requires-2 c κs = search needs
 
 returns-2 : tie.Need-returns-2
 returns-2 c =
@@ -40,12 +22,6 @@ returns-2 c =
     let s = p .before .before in
     let e : (s .args .n + 7) / 8 ≡ 1 = omega (arith, f .if1 .left, c .if2 .taken) in
     rw (q .push2 .ensures, q .before .low-byte .ensures, p .push .ensures, p .before .empty .ensures) (shown-1 (s .args .v) (s .args .n) e)
-
-high-byte-requires : tie.Need-high-byte-requires
-high-byte-requires c κs = search needs
-
-push-requires-3 : tie.Need-push-requires-3
-push-requires-3 c κs = search needs
 
 returns-3 : tie.Need-returns-3
 returns-3 c =
@@ -62,14 +38,14 @@ pub show-bits-spec : {M : Type 1} → statement M
 show-bits-spec =
     tie.close
     (tie.spec
-    empty-requires
-    add-push
-    cast-push
-    push-requires
+    (λ c κs. tt)
+    (λ c. search needs)
+    (λ c. search needs)
+    (λ c κs. tt)
     returns
-    low-byte-requires
-    push-requires-2
+    (λ c κs. tt)
+    (λ c κs. tt)
     returns-2
-    high-byte-requires
-    push-requires-3
+    (λ c κs. tt)
+    (λ c κs. tt)
     returns-3)

@@ -24,36 +24,6 @@ long c = search needs
 fits : (c : tie.Start Inv-loop μ-loop) → c .args .k + c .args .n ≤ length (c .args .words)
 fits c = rw (long c) (c .pre)
 
-mul-count : tie.Need-mul-count Inv-loop μ-loop
-mul-count c = omega (arith, c .pre)
-
-cast-count : tie.Need-cast-count Inv-loop μ-loop
-cast-count c = omega (arith, c .pre)
-
-empty-requires : tie.Need-empty-requires Inv-loop μ-loop
-empty-requires c κs = search needs
-
-push-requires : tie.Need-push-requires Inv-loop μ-loop
-push-requires c κs = search needs
-
-loop-holds : tie.Need-loop-holds Inv-loop μ-loop
-loop-holds c = (omega arith, refl)
-
-add-word-at : tie.Need-add-word-at Inv-loop μ-loop
-add-word-at c = omega (arith, c .before .before .before .before .pre)
-
-word-at-requires : tie.Need-word-at-requires Inv-loop μ-loop
-word-at-requires c κs = search needs
-
-push16-requires : tie.Need-push16-requires Inv-loop μ-loop
-push16-requires c κs = search needs
-
-add-i : tie.Need-add-i Inv-loop μ-loop
-add-i c = search needs
-
-loop-less : tie.Need-loop-less Inv-loop μ-loop
-loop-less c = search needs
-
 loop-again : tie.Need-loop-again Inv-loop μ-loop
 loop-again c =
     let l = c .before .before .before in
@@ -81,15 +51,15 @@ show-words-spec =
     (tie.spec
     Inv-loop
     μ-loop
-    mul-count
-    cast-count
-    empty-requires
-    push-requires
-    loop-holds
-    add-word-at
-    word-at-requires
-    push16-requires
-    add-i
-    loop-less
+    (λ c. omega (arith, c .pre))
+    (λ c. omega (arith, c .pre))
+    (λ c κs. tt)
+    (λ c κs. tt)
+    (λ c. (omega arith, refl))
+    (λ c. omega (arith, c .before .before .before .before .pre))
+    (λ c κs. tt)
+    (λ c κs. tt)
+    (λ c. search needs)
+    (λ c. search needs)
     loop-again
     returns)

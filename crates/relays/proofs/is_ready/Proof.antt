@@ -1,18 +1,11 @@
 -- `relays::is_ready` meets its contract: a number, and a type that is not 0. Assumes nothing.
-use borrow.Author.Needs.{needs}
 use Rattle.model.specs.Outputs.{presetReady}
 use Rattle.relays.proofs.is_ready.Statement.{statement}
 use Rattle.relays.proofs.is_ready.Tie as tie
-
-preset-at-requires : tie.Need-preset-at-requires
-preset-at-requires c κs = search needs
-
-is-number-requires : tie.Need-is-number-requires
-is-number-requires c κs = search needs
 
 returns : tie.Need-returns
 unfolding presetReady
 returns c = rw (c .before .is-number .ensures, c .before .before .preset-at .ensures)
 
 pub is-ready-spec : {M : Type 1} → statement M
-is-ready-spec = tie.close (tie.spec preset-at-requires is-number-requires returns)
+is-ready-spec = tie.close (tie.spec (λ c κs. tt) (λ c κs. tt) returns)

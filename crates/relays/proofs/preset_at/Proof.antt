@@ -10,22 +10,10 @@ use Rattle.relays.proofs.preset_at.Tie as tie
 long : (c : tie.Start) → length (c .args .t1) ≡ 16
 long c = search needs
 
-index-of-requires : tie.Need-index-of-requires
-index-of-requires c κs = search needs
-
-mul-p : tie.Need-mul-p
-mul-p c = search needs
-
-array-copy-out-p : tie.Need-array-copy-out-p
-array-copy-out-p c = search needs
-
-returns : tie.Need-returns
-returns c = rw (c .before .before .index-of .ensures)
-
 returns-2 : tie.Need-returns-2
 returns-2 c =
     let s = c .before .before in
     sym (List·getD-eq-default (s .args .t1) freshPreset (rw (long s) (omega (arith, c .before .index-of .ensures))))
 
 pub preset-at-spec : {M : Type 1} → statement M
-preset-at-spec = tie.close (tie.spec index-of-requires mul-p array-copy-out-p returns returns-2)
+preset-at-spec = tie.close (tie.spec (λ c κs. tt) (λ c. search needs) (λ c. search needs) (λ c. rw (c .before .before .index-of .ensures)) returns-2)

@@ -11,15 +11,6 @@ use Rattle.relays.proofs.set_preset.Tie as tie
 long : (c : tie.Start) → length (c .args .ps) ≡ 16
 long c = search needs
 
-index-of-requires : tie.Need-index-of-requires
-index-of-requires c κs = search needs
-
-mul-next : tie.Need-mul-next
-mul-next c = search needs
-
-array-set-from-next : tie.Need-array-set-from-next
-array-set-from-next c = search needs
-
 returns : tie.Need-returns
 unfolding setPreset
 returns c = rw (c .before .index-of .ensures)
@@ -32,4 +23,4 @@ returns-2 c =
 
 pub set-preset-spec : {M : Type 1} → statement M
 set-preset-spec =
-    tie.close (tie.spec index-of-requires mul-next array-set-from-next returns returns-2)
+    tie.close (tie.spec (λ c κs. tt) (λ c. search needs) (λ c. search needs) returns returns-2)

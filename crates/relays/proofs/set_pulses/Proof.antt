@@ -7,27 +7,9 @@ use Rattle.relays.proofs.SetBytes.{no-set-bytes}
 use Rattle.relays.proofs.set_pulses.Statement.{statement}
 use Rattle.relays.proofs.set_pulses.Tie as tie
 
-answer-requires : tie.Need-answer-requires
-answer-requires c κs = search needs
-
 returns : tie.Need-returns
 unfolding judged setPulses pulseOutputs actOn
 returns c = rw (c .answer .ensures, no-set-bytes (c .before .before .before .args .d .now) (c .before .if1 .taken))
-
-shared-slice-read-t8 : tie.Need-shared-slice-read-t8
-shared-slice-read-t8 c = search needs
-
-sub-pulse-listed : tie.Need-sub-pulse-listed
-sub-pulse-listed c = search needs
-
-part-pulse-listed-start : tie.Need-part-pulse-listed-start
-part-pulse-listed-start c = search needs
-
-part-pulse-listed-end : tie.Need-part-pulse-listed-end
-part-pulse-listed-end c = search needs
-
-pulse-listed-requires : tie.Need-pulse-listed-requires
-pulse-listed-requires c κs = search needs
 
 returns-2 : tie.Need-returns-2
 unfolding setPulses
@@ -37,11 +19,11 @@ pub set-pulses-spec : {M : Type 1} → statement M
 set-pulses-spec =
     tie.close
     (tie.spec
-    answer-requires
+    (λ c κs. tt)
     returns
-    shared-slice-read-t8
-    sub-pulse-listed
-    part-pulse-listed-start
-    part-pulse-listed-end
-    pulse-listed-requires
+    (λ c. search needs)
+    (λ c. search needs)
+    (λ c. search needs)
+    (λ c. search needs)
+    (λ c κs. tt)
     returns-2)

@@ -19,25 +19,10 @@ Inv-loop d n i₀ i = (i ≤ length d) × (all groupFits (chunks 8 (drop i d)) �
 abbrev μ-loop : tie.MeasureT-loop
 μ-loop d n i₀ i = length d - i
 
-loop-holds : tie.Need-loop-holds Inv-loop μ-loop
-loop-holds c = (omega arith, refl)
-
-sub-loop : tie.Need-sub-loop Inv-loop μ-loop
-sub-loop c = omega arith
-
-group-fits-requires : tie.Need-group-fits-requires Inv-loop μ-loop
-group-fits-requires c κs = omega arith
-
 returns : tie.Need-returns Inv-loop μ-loop
 returns c =
     let at = c .before .before .before in
     all-stops groupFits _ _ _ (chunks-cons 8 (at .loop .i) (now (at .before .before .args .d)) (omega arith) (omega arith)) (sym (c .before .group-fits .ensures) ∙ not-true _ (c .if1 .taken)) ∙ at .loop .inv .1
-
-add-i : tie.Need-add-i Inv-loop μ-loop
-add-i c = omega arith
-
-loop-less : tie.Need-loop-less Inv-loop μ-loop
-loop-less c = omega arith
 
 loop-again : tie.Need-loop-again Inv-loop μ-loop
 loop-again c =
@@ -53,11 +38,11 @@ all-groups-fit-spec =
     (tie.spec
     Inv-loop
     μ-loop
-    loop-holds
-    sub-loop
-    group-fits-requires
+    (λ c. (omega arith, refl))
+    (λ c. omega arith)
+    (λ c κs. omega arith)
     returns
-    add-i
-    loop-less
+    (λ c. omega arith)
+    (λ c. omega arith)
     loop-again
     returns-2)

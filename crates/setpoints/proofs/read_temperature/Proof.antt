@@ -1,5 +1,4 @@
 -- `setpoints::read_temperature` meets its contract. Assumes nothing.
-use borrow.Author.Needs.{needs}
 use denote.Ref.{now}
 use lib.ListN.{length, getD}
 use borrow.Author.Tests.{eq-eqb, ne-eqb, le-leb, lt-leb}
@@ -9,18 +8,9 @@ use native.Mathlib.Omega.{arith}
 use Rattle.setpoints.proofs.read_temperature.Statement.{statement}
 use Rattle.setpoints.proofs.read_temperature.Tie as tie
 
-refuse-requires : tie.Need-refuse-requires
-refuse-requires c κs = search needs
-
 returns : tie.Need-returns
 unfolding readTemperature judged
 returns c = rw (c .refuse .ensures, ne-eqb (length (now (c .before .before .before .args .d))) 1 (c .before .if1 .taken))
-
-shared-slice-read-if2 : tie.Need-shared-slice-read-if2
-shared-slice-read-if2 c = omega arith
-
-refuse-requires-2 : tie.Need-refuse-requires-2
-refuse-requires-2 c κs = search needs
 
 returns-2 : tie.Need-returns-2
 unfolding readTemperature judged
@@ -29,12 +19,6 @@ returns-2 c =
     let e = t .before .before in
     let d = now (e .before .before .args .d) in
     rw (c .refuse2 .ensures, eq-eqb (length d) 1 (omega (arith, e .if1 .left)), lt-leb (getD d 0 0) 1 (t .if2 .taken))
-
-show-reading-requires : tie.Need-show-reading-requires
-show-reading-requires c κs = search needs
-
-tell-requires : tie.Need-tell-requires
-tell-requires c κs = search needs
 
 returns-3 : tie.Need-returns-3
 unfolding readTemperature judged
@@ -48,11 +32,11 @@ pub read-temperature-spec : {M : Type 1} → statement M
 read-temperature-spec =
     tie.close
     (tie.spec
-    refuse-requires
+    (λ c κs. tt)
     returns
-    shared-slice-read-if2
-    refuse-requires-2
+    (λ c. omega arith)
+    (λ c κs. tt)
     returns-2
-    show-reading-requires
-    tell-requires
+    (λ c κs. tt)
+    (λ c κs. tt)
     returns-3)

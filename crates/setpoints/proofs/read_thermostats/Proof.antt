@@ -1,5 +1,4 @@
 -- `setpoints::read_thermostats` meets its contract. Assumes nothing.
-use borrow.Author.Needs.{needs}
 use native.Mathlib.Omega.{arith}
 use mathlib.Core.Path.{sym, _∙_}
 use mathlib.Core.Bool.{true, false}
@@ -13,18 +12,9 @@ use Rattle.setpoints.proofs.Shown.{groups-fit, named-numbers}
 use Rattle.setpoints.proofs.read_thermostats.Statement.{statement}
 use Rattle.setpoints.proofs.read_thermostats.Tie as tie
 
-refuse-requires : tie.Need-refuse-requires
-refuse-requires c κs = search needs
-
 returns : tie.Need-returns
 unfolding readThermostats judged
 returns c = rw (c .refuse .ensures, lt-leb (length (now (c .before .before .before .args .d))) 12 (c .before .if1 .taken))
-
-all-numbers-requires : tie.Need-all-numbers-requires
-all-numbers-requires c κs = search needs
-
-refuse-requires-2 : tie.Need-refuse-requires-2
-refuse-requires-2 c κs = search needs
 
 returns-2 : tie.Need-returns-2
 unfolding readThermostats outputsNamed judged
@@ -34,12 +24,6 @@ returns-2 c =
     let d = now (e .before .before .args .d) in
     let bad = sym (t .before .all-numbers .ensures) ∙ not-true _ (t .if2 .taken) in
     rw (c .refuse2 .ensures, le-leb (length d) 12 (omega arith), named-numbers d false bad)
-
-show-groups-requires : tie.Need-show-groups-requires
-show-groups-requires c κs = search needs
-
-tell-requires : tie.Need-tell-requires
-tell-requires c κs = search needs
 
 returns-3 : tie.Need-returns-3
 unfolding readThermostats outputsNamed judged
@@ -55,11 +39,11 @@ pub read-thermostats-spec : {M : Type 1} → statement M
 read-thermostats-spec =
     tie.close
     (tie.spec
-    refuse-requires
+    (λ c κs. tt)
     returns
-    all-numbers-requires
-    refuse-requires-2
+    (λ c κs. tt)
+    (λ c κs. tt)
     returns-2
-    show-groups-requires
-    tell-requires
+    (λ c κs. tt)
+    (λ c κs. tt)
     returns-3)

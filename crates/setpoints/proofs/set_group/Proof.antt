@@ -9,21 +9,6 @@ use native.Mathlib.Omega.{arith}
 use Rattle.setpoints.proofs.set_group.Statement.{statement}
 use Rattle.setpoints.proofs.set_group.Tie as tie
 
-shared-slice-read-index-of : tie.Need-shared-slice-read-index-of
-shared-slice-read-index-of c = omega arith
-
-index-of-requires : tie.Need-index-of-requires
-index-of-requires c κs = search needs
-
-group-at-requires : tie.Need-group-at-requires
-group-at-requires c κs = search needs
-
-mul-next : tie.Need-mul-next
-mul-next c = search needs
-
-array-set-from-next : tie.Need-array-set-from-next
-array-set-from-next c = search needs
-
 returns : tie.Need-returns
 returns c =
     let a = c .before .before .before .before .before .args in
@@ -40,10 +25,10 @@ pub set-group-spec : {M : Type 1} → statement M
 set-group-spec =
     tie.close
     (tie.spec
-    shared-slice-read-index-of
-    index-of-requires
-    group-at-requires
-    mul-next
-    array-set-from-next
+    (λ c. omega arith)
+    (λ c κs. tt)
+    (λ c κs. search needs)
+    (λ c. search needs)
+    (λ c. search needs)
     returns
     returns-2)

@@ -18,21 +18,6 @@ Inv-loop d n next₀ i₀ next i = (i ≤ length d) × (foldl setGroup next (chu
 abbrev μ-loop : tie.MeasureT-loop
 μ-loop d n next₀ i₀ next i = length d - i
 
-loop-holds : tie.Need-loop-holds Inv-loop μ-loop
-loop-holds c = (omega arith, refl)
-
-sub-loop : tie.Need-sub-loop Inv-loop μ-loop
-sub-loop c = omega arith
-
-set-group-requires : tie.Need-set-group-requires Inv-loop μ-loop
-set-group-requires c κs = omega arith
-
-add-i : tie.Need-add-i Inv-loop μ-loop
-add-i c = omega arith
-
-loop-less : tie.Need-loop-less Inv-loop μ-loop
-loop-less c = omega arith
-
 loop-again : tie.Need-loop-again Inv-loop μ-loop
 loop-again c =
     let at = c .before .before in
@@ -47,10 +32,10 @@ set-groups-spec =
     (tie.spec
     Inv-loop
     μ-loop
-    loop-holds
-    sub-loop
-    set-group-requires
-    add-i
-    loop-less
+    (λ c. (omega arith, refl))
+    (λ c. omega arith)
+    (λ c κs. omega arith)
+    (λ c. omega arith)
+    (λ c. omega arith)
     loop-again
     returns)

@@ -9,39 +9,6 @@ use Rattle.setpoints.proofs.Shown.{bytes-and-word}
 use Rattle.setpoints.proofs.show_reading.Statement.{statement}
 use Rattle.setpoints.proofs.show_reading.Tie as tie
 
-enum-known-r : tie.Need-enum-known-r
-enum-known-r c = search needs
-
-empty-requires : tie.Need-empty-requires
-empty-requires c κs = search needs
-
-push-requires : tie.Need-push-requires
-push-requires c κs = search needs
-
-push-requires-2 : tie.Need-push-requires-2
-push-requires-2 c κs = search needs
-
-pattern-of-requires : tie.Need-pattern-of-requires
-pattern-of-requires c κs = search needs
-
-push16-requires : tie.Need-push16-requires
-push16-requires c κs = search needs
-
-enum-told : tie.Need-enum-told
-enum-told c = search needs
-
-empty-requires-2 : tie.Need-empty-requires-2
-empty-requires-2 c κs = search needs
-
-push-requires-3 : tie.Need-push-requires-3
-push-requires-3 c κs = search needs
-
-push-requires-4 : tie.Need-push-requires-4
-push-requires-4 c κs = search needs
-
-push16-requires-2 : tie.Need-push16-requires-2
-push16-requires-2 c κs = search needs
-
 returns : tie.Need-returns
 unfolding readingShown
 returns c =
@@ -61,16 +28,16 @@ pub show-reading-spec : {M : Type 1} → statement M
 show-reading-spec =
     tie.close
     (tie.spec
-    enum-known-r
-    empty-requires
-    push-requires
-    push-requires-2
-    pattern-of-requires
-    push16-requires
-    enum-told
-    empty-requires-2
-    push-requires-3
-    push-requires-4
-    push16-requires-2
+    (λ c. search needs)
+    (λ c κs. tt)
+    (λ c κs. tt)
+    (λ c κs. tt)
+    (λ c κs. tt)
+    (λ c κs. tt)
+    (λ c. search needs)
+    (λ c κs. tt)
+    (λ c κs. tt)
+    (λ c κs. tt)
+    (λ c κs. tt)
     returns
     returns-2)

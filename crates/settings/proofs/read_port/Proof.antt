@@ -1,5 +1,4 @@
 -- `settings::read_port` meets its contract. Assumes nothing.
-use borrow.Author.Needs.{needs}
 use borrow.Author.Tests.{eq-eqb, ne-eqb}
 use Rattle.model.specs.Refusals.{judged}
 use Rattle.model.specs.Counters.{readPort}
@@ -7,24 +6,9 @@ use Rattle.settings.proofs.Built.{two-bytes}
 use Rattle.settings.proofs.read_port.Statement.{statement}
 use Rattle.settings.proofs.read_port.Tie as tie
 
-refuse-requires : tie.Need-refuse-requires
-refuse-requires c κs = search needs
-
 returns : tie.Need-returns
 unfolding judged readPort
 returns c = rw (ne-eqb _ _ (c .before .if1 .taken)) (c .refuse .ensures)
-
-empty-requires : tie.Need-empty-requires
-empty-requires c κs = search needs
-
-push-requires : tie.Need-push-requires
-push-requires c κs = search needs
-
-push-requires-2 : tie.Need-push-requires-2
-push-requires-2 c κs = search needs
-
-tell-requires : tie.Need-tell-requires
-tell-requires c κs = search needs
 
 returns-2 : tie.Need-returns-2
 unfolding judged readPort
@@ -36,10 +20,10 @@ pub read-port-spec : {M : Type 1} → statement M
 read-port-spec =
     tie.close
     (tie.spec
-    refuse-requires
+    (λ c κs. tt)
     returns
-    empty-requires
-    push-requires
-    push-requires-2
-    tell-requires
+    (λ c κs. tt)
+    (λ c κs. tt)
+    (λ c κs. tt)
+    (λ c κs. tt)
     returns-2)

@@ -1,15 +1,11 @@
 -- `settings::reset_inputs` meets its contract. Assumes nothing.
-use borrow.Author.Needs.{needs}
 use Rattle.model.specs.Counters.{resetInputs}
 use Rattle.settings.proofs.reset_inputs.Statement.{statement}
 use Rattle.settings.proofs.reset_inputs.Tie as tie
-
-reset-lines-requires : tie.Need-reset-lines-requires
-reset-lines-requires c κs = search needs
 
 returns : tie.Need-returns
 unfolding resetInputs
 returns c = rw (c .before .reset-lines .ensures)
 
 pub reset-inputs-spec : {M : Type 1} → statement M
-reset-inputs-spec = tie.close (tie.spec reset-lines-requires returns)
+reset-inputs-spec = tie.close (tie.spec (λ c κs. tt) returns)

@@ -1,5 +1,4 @@
 -- `settings::set_notice` meets its contract. Assumes nothing.
-use borrow.Author.Needs.{needs}
 use denote.Ref.{now}
 use lib.Dec.{eqb}
 use lib.ListN.{length, getD}
@@ -11,20 +10,11 @@ use Rattle.model.specs.Notice.{setNotice}
 use Rattle.settings.proofs.set_notice.Statement.{statement}
 use Rattle.settings.proofs.set_notice.Tie as tie
 
-keep-notice-requires : tie.Need-keep-notice-requires
-keep-notice-requires c κs = search needs
-
 returns : tie.Need-returns
 unfolding judged setNotice
 returns c =
     let d = now (c .before .before .before .args .d) in
     rw (c .keep-notice .ensures, not-or (eqb (length d) 1) (eqb (length d) 3), c .before .if1 .taken)
-
-at-requires : tie.Need-at-requires
-at-requires c κs = search needs
-
-keep-notice-requires-2 : tie.Need-keep-notice-requires-2
-keep-notice-requires-2 c κs = search needs
 
 returns-2 : tie.Need-returns-2
 unfolding judged setNotice
@@ -34,9 +24,6 @@ returns-2 c =
     let fits = got .before .if1 .left in
     rw (c .keep-notice2 .ensures, not-or (eqb (length d) 1) (eqb (length d) 3), fits, eq-eqb (getD d 0 0) 1 (sym (got .at .ensures) ∙ c .before .before .before .if2 .taken), ne-eqb _ _ (c .before .if3 .taken))
 
-mask-given-requires : tie.Need-mask-given-requires
-mask-given-requires c κs = search needs
-
 returns-3 : tie.Need-returns-3
 unfolding judged setNotice
 returns-3 c =
@@ -44,9 +31,6 @@ returns-3 c =
     let d = now (got .before .before .before .args .d) in
     let fits = got .before .if1 .left in
     rw (not-or (eqb (length d) 1) (eqb (length d) 3), fits, eq-eqb (getD d 0 0) 1 (sym (got .at .ensures) ∙ c .before .before .before .if2 .taken), eq-eqb _ _ (c .before .if3 .left), c .mask-given .ensures)
-
-keep-notice-requires-3 : tie.Need-keep-notice-requires-3
-keep-notice-requires-3 c κs = search needs
 
 returns-4 : tie.Need-returns-4
 unfolding judged setNotice
@@ -67,4 +51,4 @@ returns-5 c =
 pub set-notice-spec : {M : Type 1} → statement M
 set-notice-spec =
     tie.close
-    (tie.spec keep-notice-requires returns at-requires keep-notice-requires-2 returns-2 mask-given-requires returns-3 keep-notice-requires-3 returns-4 returns-5)
+    (tie.spec (λ c κs. tt) returns (λ c κs. tt) (λ c κs. tt) returns-2 (λ c κs. tt) returns-3 (λ c κs. tt) returns-4 returns-5)

@@ -1,5 +1,4 @@
 -- `settings::set_port` meets its contract. Assumes nothing.
-use borrow.Author.Needs.{needs}
 use denote.Ref.{now}
 use lib.ListN.{getD}
 use borrow.Author.Tests.{eq-eqb, ne-eqb}
@@ -10,28 +9,13 @@ use Rattle.model.specs.Counters.{setPort}
 use Rattle.settings.proofs.set_port.Statement.{statement}
 use Rattle.settings.proofs.set_port.Tie as tie
 
-keep-module-requires : tie.Need-keep-module-requires
-keep-module-requires c κs = search needs
-
 returns : tie.Need-returns
 unfolding judged setPort
 returns c = rw (c .keep-module .ensures, ne-eqb _ _ (c .before .if1 .taken))
 
-keep-module-requires-2 : tie.Need-keep-module-requires-2
-keep-module-requires-2 c κs = search needs
-
 returns-2 : tie.Need-returns-2
 unfolding judged setPort
 returns-2 c = rw (c .keep-module2 .ensures, eq-eqb _ _ (c .before .before .if1 .left), c .before .if2 .taken)
-
-at-requires : tie.Need-at-requires
-at-requires c κs = search needs
-
-at-requires-2 : tie.Need-at-requires-2
-at-requires-2 c κs = search needs
-
-keep-module-requires-3 : tie.Need-keep-module-requires-3
-keep-module-requires-3 c κs = search needs
 
 returns-3 : tie.Need-returns-3
 unfolding judged setPort
@@ -40,9 +24,6 @@ returns-3 c =
     let open′ = got .before .before in
     let d = now (open′ .before .before .before .args .d) in
     rw (c .keep-module3 .ensures, eq-eqb _ _ (open′ .before .if1 .left), open′ .if2 .left, not-and (within 0 0xFD (getD d 0 0)) (within 0 0x0B (getD d 1 0)), within-zero 0xFD (getD d 0 0), within-zero 0x0B (getD d 1 0), rw (got .before .at .ensures, got .at2 .ensures) at (c .before .if3 .taken))
-
-reset-state-requires : tie.Need-reset-state-requires
-reset-state-requires c κs = search needs
 
 returns-4 : tie.Need-returns-4
 unfolding judged setPort
@@ -56,4 +37,4 @@ returns-4 c =
 pub set-port-spec : {M : Type 1} → statement M
 set-port-spec =
     tie.close
-    (tie.spec keep-module-requires returns keep-module-requires-2 returns-2 at-requires at-requires-2 keep-module-requires-3 returns-3 reset-state-requires returns-4)
+    (tie.spec (λ c κs. tt) returns (λ c κs. tt) returns-2 (λ c κs. tt) (λ c κs. tt) (λ c κs. tt) returns-3 (λ c κs. tt) returns-4)

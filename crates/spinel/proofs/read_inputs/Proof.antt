@@ -1,5 +1,4 @@
 -- `spinel::read_inputs` meets its contract. Assumes nothing.
-use borrow.Author.Needs.{needs}
 use mathlib.Core.Path.{sym}
 use denote.Ref.{now}
 use Rattle.model.specs.Outputs.{readStates}
@@ -10,15 +9,6 @@ use Rattle.inputs.specs.Passes.{stableBits}
 use Rattle.spinel.proofs.read_inputs.Statement.{statement}
 use Rattle.spinel.proofs.read_inputs.Tie as tie
 
-stable-bits-requires : tie.Need-stable-bits-requires
-stable-bits-requires c κs = search needs
-
-read-states-requires : tie.Need-read-states-requires
-read-states-requires c κs = search needs
-
-told-requires : tie.Need-told-requires
-told-requires c κs = search needs
-
 returns : tie.Need-returns
 unfolding readStates stableBits
 returns c =
@@ -28,4 +18,4 @@ returns c =
 
 pub read-inputs-spec : {M : Type 1} → statement M
 read-inputs-spec =
-    tie.close (tie.spec stable-bits-requires read-states-requires told-requires returns)
+    tie.close (tie.spec (λ c κs. tt) (λ c κs. tt) (λ c κs. tt) returns)

@@ -1,85 +1,9 @@
 -- `spinel::serve` meets its contract. Assumes nothing.
-use borrow.Author.Needs.{needs}
 use borrow.Author.Tests.{ne-eqb}
 use Rattle.model.specs.Refusals.{judged}
 use Rattle.model.specs.Spinel.{spinelAsked}
 use Rattle.spinel.proofs.serve.Statement.{statement}
 use Rattle.spinel.proofs.serve.Tie as tie
-
-set-notice-requires : tie.Need-set-notice-requires
-set-notice-requires c κs = search needs
-
-read-notice-requires : tie.Need-read-notice-requires
-read-notice-requires c κs = search needs
-
-set-thermostats-requires : tie.Need-set-thermostats-requires
-set-thermostats-requires c κs = search needs
-
-read-thermostats-requires : tie.Need-read-thermostats-requires
-read-thermostats-requires c κs = search needs
-
-set-outputs-requires : tie.Need-set-outputs-requires
-set-outputs-requires c κs = search needs
-
-set-pulses-requires : tie.Need-set-pulses-requires
-set-pulses-requires c κs = search needs
-
-start-presets-requires : tie.Need-start-presets-requires
-start-presets-requires c κs = search needs
-
-set-presets-requires : tie.Need-set-presets-requires
-set-presets-requires c κs = search needs
-
-read-outputs-requires : tie.Need-read-outputs-requires
-read-outputs-requires c κs = search needs
-
-read-inputs-requires : tie.Need-read-inputs-requires
-read-inputs-requires c κs = search needs
-
-read-pulses-requires : tie.Need-read-pulses-requires
-read-pulses-requires c κs = search needs
-
-read-presets-requires : tie.Need-read-presets-requires
-read-presets-requires c κs = search needs
-
-read-output-modes-requires : tie.Need-read-output-modes-requires
-read-output-modes-requires c κs = search needs
-
-read-temperature-requires : tie.Need-read-temperature-requires
-read-temperature-requires c κs = search needs
-
-read-counters-requires : tie.Need-read-counters-requires
-read-counters-requires c κs = search needs
-
-deduct-counters-requires : tie.Need-deduct-counters-requires
-deduct-counters-requires c κs = search needs
-
-set-sampling-requires : tie.Need-set-sampling-requires
-set-sampling-requires c κs = search needs
-
-read-sampling-requires : tie.Need-read-sampling-requires
-read-sampling-requires c κs = search needs
-
-set-modes-requires : tie.Need-set-modes-requires
-set-modes-requires c κs = search needs
-
-read-modes-requires : tie.Need-read-modes-requires
-read-modes-requires c κs = search needs
-
-set-port-requires : tie.Need-set-port-requires
-set-port-requires c κs = search needs
-
-reset-module-requires : tie.Need-reset-module-requires
-reset-module-requires c κs = search needs
-
-give-permission-requires : tie.Need-give-permission-requires
-give-permission-requires c κs = search needs
-
-read-port-requires : tie.Need-read-port-requires
-read-port-requires c κs = search needs
-
-bare-requires : tie.Need-bare-requires
-bare-requires c κs = search needs
 
 returns : tie.Need-returns
 unfolding spinelAsked
@@ -213,31 +137,31 @@ pub serve-spec : {M : Type 1} → statement M
 serve-spec =
     tie.close
     (tie.spec
-    set-notice-requires
-    read-notice-requires
-    set-thermostats-requires
-    read-thermostats-requires
-    set-outputs-requires
-    set-pulses-requires
-    start-presets-requires
-    set-presets-requires
-    read-outputs-requires
-    read-inputs-requires
-    read-pulses-requires
-    read-presets-requires
-    read-output-modes-requires
-    read-temperature-requires
-    read-counters-requires
-    deduct-counters-requires
-    set-sampling-requires
-    read-sampling-requires
-    set-modes-requires
-    read-modes-requires
-    set-port-requires
-    reset-module-requires
-    give-permission-requires
-    read-port-requires
-    bare-requires
+    (λ c κs. tt)
+    (λ c κs. tt)
+    (λ c κs. tt)
+    (λ c κs. tt)
+    (λ c κs. tt)
+    (λ c κs. tt)
+    (λ c κs. tt)
+    (λ c κs. tt)
+    (λ c κs. tt)
+    (λ c κs. tt)
+    (λ c κs. tt)
+    (λ c κs. tt)
+    (λ c κs. tt)
+    (λ c κs. tt)
+    (λ c κs. tt)
+    (λ c κs. tt)
+    (λ c κs. tt)
+    (λ c κs. tt)
+    (λ c κs. tt)
+    (λ c κs. tt)
+    (λ c κs. tt)
+    (λ c κs. tt)
+    (λ c κs. tt)
+    (λ c κs. tt)
+    (λ c κs. tt)
     returns
     returns-2
     returns-3

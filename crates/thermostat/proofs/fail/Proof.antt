@@ -1,19 +1,12 @@
 use borrow.Author.Tests.{lt-leb, le-leb, eq-eqb, ne-eqb}
 use Rattle.model.specs.Temperature.{failed}
 use Rattle.thermostat.proofs.Keys.{eqb-at}
-use borrow.Author.Needs.{needs}
 use Rattle.thermostat.proofs.fail.Statement.{statement}
 use Rattle.thermostat.proofs.fail.Tie as tie
 
 returns : tie.Need-returns
 unfolding failed
 returns c = rw (lt-leb 128 (c .before .before .args .h .flags) (c .if1 .taken))
-
-set-requires : tie.Need-set-requires
-set-requires c κs = search needs
-
-set-requires-2 : tie.Need-set-requires-2
-set-requires-2 c κs = search needs
 
 returns-2 : tie.Need-returns-2
 unfolding failed
@@ -35,4 +28,4 @@ returns-4 c =
     rw (le-leb 128 (h .flags) (c .before .if1 .left), ne-eqb (h .err) 1 (c .match .rest .0 .1), ne-eqb (h .err) 2 (c .match .rest .1))
 
 pub fail-spec : {M : Type 1} → statement M
-fail-spec = tie.close (tie.spec returns set-requires set-requires-2 returns-2 returns-3 returns-4)
+fail-spec = tie.close (tie.spec returns (λ c κs. tt) (λ c κs. tt) returns-2 returns-3 returns-4)

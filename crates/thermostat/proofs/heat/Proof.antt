@@ -3,22 +3,12 @@ use borrow.Author.Tests.{lt-leb, le-leb, eq-eqb, ne-eqb}
 use mir.Facts.{toZ-ofZ}
 use Rattle.model.specs.Temperature.{heated}
 use Rattle.thermostat.proofs.Keys.{eqb-at}
-use borrow.Author.Needs.{needs}
 use Rattle.thermostat.proofs.heat.Statement.{statement}
 use Rattle.thermostat.proofs.heat.Tie as tie
 
 returns : tie.Need-returns
 unfolding heated
 returns c = rw (lt-leb 128 (c .before .before .args .h .flags) (c .if1 .taken))
-
-level-requires : tie.Need-level-requires
-level-requires c κs = search needs
-
-level-requires-2 : tie.Need-level-requires-2
-level-requires-2 c κs = search needs
-
-cross-requires : tie.Need-cross-requires
-cross-requires c κs = search needs
 
 returns-2 : tie.Need-returns-2
 unfolding heated
@@ -50,4 +40,4 @@ returns-4 c =
 pub heat-spec : {M : Type 1} → statement M
 heat-spec =
     tie.close
-    (tie.spec returns level-requires level-requires-2 cross-requires returns-2 returns-3 returns-4)
+    (tie.spec returns (λ c κs. tt) (λ c κs. tt) (λ c κs. tt) returns-2 returns-3 returns-4)

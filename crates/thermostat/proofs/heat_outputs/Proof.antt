@@ -22,36 +22,6 @@ abbrev μ-loop : tie.MeasureT-loop
 long : (c : tie.Start Inv-loop μ-loop) → length (c .args .os) ≡ 16
 long c = search needs
 
-loop-holds : tie.Need-loop-holds Inv-loop μ-loop
-loop-holds c = (omega arith, sym (done-none _ _))
-
-mul-h : tie.Need-mul-h Inv-loop μ-loop
-mul-h c = omega arith
-
-array-copy-out-h : tie.Need-array-copy-out-h Inv-loop μ-loop
-array-copy-out-h c = omega arith
-
-mul-o : tie.Need-mul-o Inv-loop μ-loop
-mul-o c = omega arith
-
-array-copy-out-o : tie.Need-array-copy-out-o Inv-loop μ-loop
-array-copy-out-o c = omega arith
-
-heat-requires : tie.Need-heat-requires Inv-loop μ-loop
-heat-requires c κs = search needs
-
-mul-next : tie.Need-mul-next Inv-loop μ-loop
-mul-next c = omega arith
-
-array-set-from-next : tie.Need-array-set-from-next Inv-loop μ-loop
-array-set-from-next c = omega arith
-
-add-i : tie.Need-add-i Inv-loop μ-loop
-add-i c = omega arith
-
-loop-less : tie.Need-loop-less Inv-loop μ-loop
-loop-less c = omega arith
-
 loop-again : tie.Need-loop-again Inv-loop μ-loop
 loop-again c =
     let p = c .before .before .before .before in
@@ -72,15 +42,15 @@ heat-outputs-spec =
     (tie.spec
     Inv-loop
     μ-loop
-    loop-holds
-    mul-h
-    array-copy-out-h
-    mul-o
-    array-copy-out-o
-    heat-requires
-    mul-next
-    array-set-from-next
-    add-i
-    loop-less
+    (λ c. (omega arith, sym (done-none _ _)))
+    (λ c. omega arith)
+    (λ c. omega arith)
+    (λ c. omega arith)
+    (λ c. omega arith)
+    (λ c κs. tt)
+    (λ c. omega arith)
+    (λ c. omega arith)
+    (λ c. omega arith)
+    (λ c. omega arith)
     loop-again
     returns)

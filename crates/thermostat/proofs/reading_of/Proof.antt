@@ -12,9 +12,6 @@ use Rattle.thermostat.proofs.reading_of.Tie as tie
 abbrev inRange : Bool → ℤ → Bool
 inRange good t = good && (leZ (negsuc 999) t && leZ t (pos 2000))
 
-int-to-float-t7 : tie.Need-int-to-float-t7
-int-to-float-t7 c = search needs
-
 returns : tie.Need-returns
 unfolding readingOf degrees
 returns c =
@@ -30,4 +27,4 @@ returns-2 c =
     rw h
 
 pub reading-of-spec : {M : Type 1} → statement M
-reading-of-spec = tie.close (tie.spec int-to-float-t7 returns returns-2)
+reading-of-spec = tie.close (tie.spec (λ c. search needs) returns returns-2)

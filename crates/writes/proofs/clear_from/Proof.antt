@@ -21,27 +21,6 @@ Inv-loop first d cs copy₀ n₀ i₀ copy n i = ((i ≤ length d) × (2 * n ≡
 abbrev μ-loop : tie.MeasureT-loop
 μ-loop first d cs copy₀ n₀ i₀ copy n i = length d - i
 
-loop-holds : tie.Need-loop-holds Inv-loop μ-loop
-loop-holds c = ((omega arith, omega arith), refl)
-
-sub-loop : tie.Need-sub-loop Inv-loop μ-loop
-sub-loop c = omega arith
-
-shared-slice-read-be16 : tie.Need-shared-slice-read-be16 Inv-loop μ-loop
-shared-slice-read-be16 c = omega arith
-
-add-be16 : tie.Need-add-be16 Inv-loop μ-loop
-add-be16 c = omega arith
-
-shared-slice-read-be16-2 : tie.Need-shared-slice-read-be16-2 Inv-loop μ-loop
-shared-slice-read-be16-2 c = omega arith
-
-be16-requires : tie.Need-be16-requires Inv-loop μ-loop
-be16-requires c κs = tt
-
-deny-requires : tie.Need-deny-requires Inv-loop μ-loop
-deny-requires c κs = tt
-
 returns : tie.Need-returns Inv-loop μ-loop
 unfolding isZero
 returns c =
@@ -53,18 +32,6 @@ returns c =
     ∙ value-stops (onCopy isZero) clearOne (cleared 0) (cleared 11 (from .start)) (now (from .d)) (at .loop .i) (at .loop .n) (at .loop .copy) (omega arith) bad
     ∙ at .loop .inv .1
     ∙ clears-taken (from .first) (words (now (from .d))) (from .start)
-
-clear-at-requires : tie.Need-clear-at-requires Inv-loop μ-loop
-clear-at-requires c κs = tt
-
-add-n : tie.Need-add-n Inv-loop μ-loop
-add-n c = omega arith
-
-add-i : tie.Need-add-i Inv-loop μ-loop
-add-i c = omega arith
-
-loop-less : tie.Need-loop-less Inv-loop μ-loop
-loop-less c = omega arith
 
 loop-again : tie.Need-loop-again Inv-loop μ-loop
 unfolding isZero clearOne
@@ -89,17 +56,17 @@ clear-from-spec =
     (tie.spec
     Inv-loop
     μ-loop
-    loop-holds
-    sub-loop
-    shared-slice-read-be16
-    add-be16
-    shared-slice-read-be16-2
-    be16-requires
-    deny-requires
+    (λ c. ((omega arith, omega arith), refl))
+    (λ c. omega arith)
+    (λ c. omega arith)
+    (λ c. omega arith)
+    (λ c. omega arith)
+    (λ c κs. tt)
+    (λ c κs. tt)
     returns
-    clear-at-requires
-    add-n
-    add-i
-    loop-less
+    (λ c κs. tt)
+    (λ c. omega arith)
+    (λ c. omega arith)
+    (λ c. omega arith)
     loop-again
     returns-2)

@@ -20,30 +20,6 @@ Inv-loop first d cs copy₀ n₀ i₀ copy n i = (i ≤ length d) × (deducting 
 abbrev μ-loop : tie.MeasureT-loop
 μ-loop first d cs copy₀ n₀ i₀ copy n i = length d - i
 
-loop-holds : tie.Need-loop-holds Inv-loop μ-loop
-loop-holds c = (omega arith, refl)
-
-sub-loop : tie.Need-sub-loop Inv-loop μ-loop
-sub-loop c = omega arith
-
-shared-slice-read-be16 : tie.Need-shared-slice-read-be16 Inv-loop μ-loop
-shared-slice-read-be16 c = omega arith
-
-add-be16 : tie.Need-add-be16 Inv-loop μ-loop
-add-be16 c = omega arith
-
-shared-slice-read-be16-2 : tie.Need-shared-slice-read-be16-2 Inv-loop μ-loop
-shared-slice-read-be16-2 c = omega arith
-
-be16-requires : tie.Need-be16-requires Inv-loop μ-loop
-be16-requires c κs = tt
-
-fits-at-requires : tie.Need-fits-at-requires Inv-loop μ-loop
-fits-at-requires c κs = tt
-
-deny-requires : tie.Need-deny-requires Inv-loop μ-loop
-deny-requires c κs = tt
-
 returns : tie.Need-returns Inv-loop μ-loop
 returns c =
     let f = c .before .before in
@@ -55,20 +31,11 @@ returns c =
     ∙ at .loop .inv .1
     ∙ deduct-walk (from .cs) (numbered (from .first) (words (now (from .d))))
 
-deduct-at-requires : tie.Need-deduct-at-requires Inv-loop μ-loop
-deduct-at-requires c κs = tt
-
 add-n : tie.Need-add-n Inv-loop μ-loop
 add-n c =
     let f = c .before .before in
     let at = f .before .before .before .before .before in
     omega (arith, deductible-most (at .loop .copy) (at .loop .n) _ (sym (f .fits-at .ensures) ∙ not-false _ (c .before .if1 .left)))
-
-add-i : tie.Need-add-i Inv-loop μ-loop
-add-i c = omega arith
-
-loop-less : tie.Need-loop-less Inv-loop μ-loop
-loop-less c = omega arith
 
 loop-again : tie.Need-loop-again Inv-loop μ-loop
 loop-again c =
@@ -92,18 +59,18 @@ deduct-from-spec =
     (tie.spec
     Inv-loop
     μ-loop
-    loop-holds
-    sub-loop
-    shared-slice-read-be16
-    add-be16
-    shared-slice-read-be16-2
-    be16-requires
-    fits-at-requires
-    deny-requires
+    (λ c. (omega arith, refl))
+    (λ c. omega arith)
+    (λ c. omega arith)
+    (λ c. omega arith)
+    (λ c. omega arith)
+    (λ c κs. tt)
+    (λ c κs. tt)
+    (λ c κs. tt)
     returns
-    deduct-at-requires
+    (λ c κs. tt)
     add-n
-    add-i
-    loop-less
+    (λ c. omega arith)
+    (λ c. omega arith)
     loop-again
     returns-2)

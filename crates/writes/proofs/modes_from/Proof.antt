@@ -20,27 +20,6 @@ Inv-loop first d ms copy₀ n₀ i₀ copy n i = (i ≤ length d) × (setting ms
 abbrev μ-loop : tie.MeasureT-loop
 μ-loop first d ms copy₀ n₀ i₀ copy n i = length d - i
 
-loop-holds : tie.Need-loop-holds Inv-loop μ-loop
-loop-holds c = (omega arith, refl)
-
-sub-loop : tie.Need-sub-loop Inv-loop μ-loop
-sub-loop c = omega arith
-
-shared-slice-read-be16 : tie.Need-shared-slice-read-be16 Inv-loop μ-loop
-shared-slice-read-be16 c = omega arith
-
-add-be16 : tie.Need-add-be16 Inv-loop μ-loop
-add-be16 c = omega arith
-
-shared-slice-read-be16-2 : tie.Need-shared-slice-read-be16-2 Inv-loop μ-loop
-shared-slice-read-be16-2 c = omega arith
-
-be16-requires : tie.Need-be16-requires Inv-loop μ-loop
-be16-requires c κs = tt
-
-mode-settable-requires : tie.Need-mode-settable-requires Inv-loop μ-loop
-mode-settable-requires c κs = tt
-
 returns : tie.Need-returns Inv-loop μ-loop
 returns c =
     let f = c .before in
@@ -57,20 +36,11 @@ cast-set-mode-at c =
     let at = f .before .before .before .before .before in
     omega (arith, settable-mode (at .loop .n) _ (sym (f .mode-settable .ensures) ∙ not-false _ (c .if1 .left)))
 
-set-mode-at-requires : tie.Need-set-mode-at-requires Inv-loop μ-loop
-set-mode-at-requires c κs = tt
-
 add-n : tie.Need-add-n Inv-loop μ-loop
 add-n c =
     let f = c .before .before in
     let at = f .before .before .before .before .before in
     omega (arith, settable-number (at .loop .n) _ (sym (f .mode-settable .ensures) ∙ not-false _ (c .before .if1 .left)))
-
-add-i : tie.Need-add-i Inv-loop μ-loop
-add-i c = omega arith
-
-loop-less : tie.Need-loop-less Inv-loop μ-loop
-loop-less c = omega arith
 
 loop-again : tie.Need-loop-again Inv-loop μ-loop
 loop-again c =
@@ -94,18 +64,18 @@ modes-from-spec =
     (tie.spec
     Inv-loop
     μ-loop
-    loop-holds
-    sub-loop
-    shared-slice-read-be16
-    add-be16
-    shared-slice-read-be16-2
-    be16-requires
-    mode-settable-requires
+    (λ c. (omega arith, refl))
+    (λ c. omega arith)
+    (λ c. omega arith)
+    (λ c. omega arith)
+    (λ c. omega arith)
+    (λ c κs. tt)
+    (λ c κs. tt)
     returns
     cast-set-mode-at
-    set-mode-at-requires
+    (λ c κs. tt)
     add-n
-    add-i
-    loop-less
+    (λ c. omega arith)
+    (λ c. omega arith)
     loop-again
     returns-2)

@@ -21,27 +21,6 @@ Inv-loop first d m copy₀ n₀ i₀ copy n i = ((i ≤ length d) × (2 * n ≡ 
 abbrev μ-loop : tie.MeasureT-loop
 μ-loop first d m copy₀ n₀ i₀ copy n i = length d - i
 
-loop-holds : tie.Need-loop-holds Inv-loop μ-loop
-loop-holds c = ((omega arith, omega arith), refl)
-
-sub-loop : tie.Need-sub-loop Inv-loop μ-loop
-sub-loop c = omega arith
-
-shared-slice-read-be16 : tie.Need-shared-slice-read-be16 Inv-loop μ-loop
-shared-slice-read-be16 c = omega arith
-
-add-be16 : tie.Need-add-be16 Inv-loop μ-loop
-add-be16 c = omega arith
-
-shared-slice-read-be16-2 : tie.Need-shared-slice-read-be16-2 Inv-loop μ-loop
-shared-slice-read-be16-2 c = omega arith
-
-be16-requires : tie.Need-be16-requires Inv-loop μ-loop
-be16-requires c κs = tt
-
-port-settable-requires : tie.Need-port-settable-requires Inv-loop μ-loop
-port-settable-requires c κs = tt
-
 returns : tie.Need-returns Inv-loop μ-loop
 returns c =
     let f = c .before in
@@ -58,18 +37,6 @@ cast-set-port-field c =
     let at = f .before .before .before .before .before in
     omega (arith, settable-byte (at .loop .n) _ (sym (f .port-settable .ensures) ∙ not-false _ (c .if1 .left)))
 
-set-port-field-requires : tie.Need-set-port-field-requires Inv-loop μ-loop
-set-port-field-requires c κs = tt
-
-add-n : tie.Need-add-n Inv-loop μ-loop
-add-n c = omega arith
-
-add-i : tie.Need-add-i Inv-loop μ-loop
-add-i c = omega arith
-
-loop-less : tie.Need-loop-less Inv-loop μ-loop
-loop-less c = omega arith
-
 loop-again : tie.Need-loop-again Inv-loop μ-loop
 loop-again c =
     let f = c .before .before in
@@ -77,9 +44,6 @@ loop-again c =
     let from = at .before .before .before .args in
     let good = rw (f .before .be16 .ensures) at (sym (f .port-settable .ensures) ∙ not-false _ (c .before .if1 .left)) in
     ((omega arith, omega arith), rw (c .set-port-field .ensures, f .before .be16 .ensures) (value-goes (onCopy portSettable) setPortField (settled (from .m)) (answered 11 (from .m)) (now (from .d)) (at .loop .i) (at .loop .n) (at .loop .copy) (omega arith) good ∙ at .loop .inv .1))
-
-reset-state-requires : tie.Need-reset-state-requires Inv-loop μ-loop
-reset-state-requires c κs = tt
 
 returns-2 : tie.Need-returns-2 Inv-loop μ-loop
 returns-2 c =
@@ -96,19 +60,19 @@ port-from-spec =
     (tie.spec
     Inv-loop
     μ-loop
-    loop-holds
-    sub-loop
-    shared-slice-read-be16
-    add-be16
-    shared-slice-read-be16-2
-    be16-requires
-    port-settable-requires
+    (λ c. ((omega arith, omega arith), refl))
+    (λ c. omega arith)
+    (λ c. omega arith)
+    (λ c. omega arith)
+    (λ c. omega arith)
+    (λ c κs. tt)
+    (λ c κs. tt)
     returns
     cast-set-port-field
-    set-port-field-requires
-    add-n
-    add-i
-    loop-less
+    (λ c κs. tt)
+    (λ c. omega arith)
+    (λ c. omega arith)
+    (λ c. omega arith)
     loop-again
-    reset-state-requires
+    (λ c κs. tt)
     returns-2)

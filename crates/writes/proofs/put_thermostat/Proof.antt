@@ -10,19 +10,10 @@ use Rattle.writes.proofs.put_thermostat.Tie as tie
 long : (c : tie.Start) → length (c .args .hs) ≡ 16
 long c = search needs
 
-mul-next : tie.Need-mul-next
-mul-next c = search needs
-
-array-set-from-next : tie.Need-array-set-from-next
-array-set-from-next c = search needs
-
-returns : tie.Need-returns
-returns c = search needs
-
 returns-2 : tie.Need-returns-2
 returns-2 c =
     let s = c .before in
     sym (set-out (s .args .hs) (s .args .k) (s .args .h) (rw (long s) (omega arith)))
 
 pub put-thermostat-spec : {M : Type 1} → statement M
-put-thermostat-spec = tie.close (tie.spec mul-next array-set-from-next returns returns-2)
+put-thermostat-spec = tie.close (tie.spec (λ c. search needs) (λ c. search needs) (λ c. search needs) returns-2)

@@ -1,5 +1,4 @@
 -- `writes::set_thermostat` meets its contract: flags of one byte, and settings that are allowed. Assumes nothing.
-use borrow.Author.Needs.{needs}
 use native.Mathlib.Omega.{arith}
 use mathlib.Core.Path.{sym, _∙_}
 use borrow.Author.Tests.{le-leb, lt-leb, not-true, not-false}
@@ -8,18 +7,9 @@ use Rattle.writes.specs.Answers.{thermostatTaken}
 use Rattle.writes.proofs.set_thermostat.Statement.{statement}
 use Rattle.writes.proofs.set_thermostat.Tie as tie
 
-value-at-requires : tie.Need-value-at-requires
-value-at-requires c κs = search needs
-
 returns : tie.Need-returns
 unfolding thermostatTaken judged
 returns c = rw (← c .before .value-at .ensures, lt-leb _ _ (c .if1 .taken))
-
-thermostat-from-requires : tie.Need-thermostat-from-requires
-thermostat-from-requires c κs = omega (arith, c .before .value-at .ensures, c .if1 .left)
-
-fits-requires : tie.Need-fits-requires
-fits-requires c κs = search needs
 
 returns-2 : tie.Need-returns-2
 unfolding thermostatTaken judged
@@ -28,9 +18,6 @@ returns-2 c =
     let t = f .before in
     let e = t .before in
     rw (← e .before .value-at .ensures, le-leb _ _ (e .if1 .left), ← t .thermostat-from .ensures, sym (f .fits2 .ensures) ∙ not-true _ (c .if2 .taken))
-
-put-thermostat-requires : tie.Need-put-thermostat-requires
-put-thermostat-requires c κs = search needs
 
 returns-3 : tie.Need-returns-3
 unfolding thermostatTaken judged
@@ -44,10 +31,10 @@ pub set-thermostat-spec : {M : Type 1} → statement M
 set-thermostat-spec =
     tie.close
     (tie.spec
-    value-at-requires
+    (λ c κs. tt)
     returns
-    thermostat-from-requires
-    fits-requires
+    (λ c κs. omega (arith, c .before .value-at .ensures, c .if1 .left))
+    (λ c κs. tt)
     returns-2
-    put-thermostat-requires
+    (λ c κs. tt)
     returns-3)
