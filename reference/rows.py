@@ -151,8 +151,9 @@ def state(part, text):
 
 
 def inputs(lines, modes, counters, number):
-    """A fresh module with other inputs."""
-    return state("Inputs", f"record {{ lines = {lines}; modes = {modes}; counters = {counters}; sampling = {number} }}")
+    """A fresh module with other inputs, modes and sampling number."""
+    settings = f"(withSampling (withModes freshModule ({modes})) {number})"
+    return f"(withInputs {settings} (record {{ lines = {lines}; counters = {counters} }}))"
 
 
 RACK = [

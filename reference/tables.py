@@ -17,7 +17,7 @@ import rows
 
 ROOT = os.path.dirname(os.path.dirname(os.path.abspath(__file__)))
 PROOFS = os.path.join(ROOT, "crates/model/proofs/")
-SPECS = """State Times Samples Frames Refusals Counters Temperature Outputs Notice Registers Spinel Modbus Call Calls Demand1 Tally Cycles
+SPECS = """State Times Samples Frames Refusals Wire Counters Temperature Outputs Notice Registers Spinel Modbus Call Calls Demand1 Tally Cycles
 Parts""".split()
 LISTS = "Tests Mapi Walk Numbers Chunks Entries".split()
 SHUT = {"done", "walk", "someBelow"}
@@ -242,13 +242,17 @@ Tallies calls rows = map (λ (r : Row). held (finalTally calls) (r .input)) rows
 CLAIM_BEFORE = """-- a state of which every part shows a number of its own, 1 to 19
 abbrev marked : Module
 marked = record {
-  inputs = record { lines = line true 2 ∷ []; modes = 3 ∷ []; counters = 4 ∷ []; sampling = 5 };
+  inputs = record { lines = line true 2 ∷ []; counters = 4 ∷ [] };
   outputs = output true 6 ∷ [];
-  presets = preset 7 7 ∷ [];
-  thermostats = thermostat 8 (pos 8) (pos 8) 8 8 ∷ [];
+  settings = record {
+    modes = 3 ∷ [];
+    sampling = 5;
+    presets = preset 7 7 ∷ [];
+    thermostats = thermostat 8 (pos 8) (pos 8) 8 8 ∷ [];
+    notice = notice 11 12 13;
+  };
   reading = Valid (pos 9) (ofBits binary32 9);
   last = Valid (pos 10) (ofBits binary32 10);
-  notice = notice 11 12 13;
   spinel = port 14 15 true;
   modbus = port 17 18 true;
 }
@@ -258,17 +262,17 @@ abbrev parts : Module → List ℕ
 parts m =
     cond (getD (m .inputs .lines) 0 freshLine .stable) 1 0
     ∷ getD (m .inputs .lines) 0 freshLine .run
-    ∷ getD (m .inputs .modes) 0 0
+    ∷ getD (m .settings .modes) 0 0
     ∷ getD (m .inputs .counters) 0 0
-    ∷ m .inputs .sampling
+    ∷ m .settings .sampling
     ∷ getD (m .outputs) 0 freshOutput .left
-    ∷ getD (m .presets) 0 freshPreset .kind
-    ∷ getD (m .thermostats) 0 freshThermostat .flags
+    ∷ getD (m .settings .presets) 0 freshPreset .kind
+    ∷ getD (m .settings .thermostats) 0 freshThermostat .flags
     ∷ getD (readingWords (m .reading)) 1 0
     ∷ getD (readingWords (m .last)) 1 0
-    ∷ m .notice .format
-    ∷ m .notice .mask
-    ∷ m .notice .signature
+    ∷ m .settings .notice .format
+    ∷ m .settings .notice .mask
+    ∷ m .settings .notice .signature
     ∷ m .spinel .address
     ∷ m .spinel .speed
     ∷ cond (m .spinel .permitted) 16 0

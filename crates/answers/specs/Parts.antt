@@ -5,7 +5,7 @@ use Rattle.lists.specs.Data.{dataOf}
 use Rattle.lists.specs.declared.Data.{Data}
 use Rattle.octets.specs.declared.Told.{Told}
 use Rattle.model.specs.declared.Module.{Module}
-use Rattle.model.specs.State.{withInputs, withCounters, withModes}
+use Rattle.model.specs.State.{withCounters, withModes}
 use Rattle.model.specs.Refusals.{Done, Out}
 use Rattle.answers.specs.declared.Served.{Served}
 use Rattle.answers.specs.declared.Handled.{Handled}
@@ -25,7 +25,7 @@ abbrev pub toldAbout : Module → Told → Served
 toldAbout m t = record { refusal = t .refusal; after = m; body = t .reply }
 
 abbrev pub countersPut : Module → ℕ → List ℕ → Data → Served
-countersPut m n cs d = record { refusal = n; after = withInputs m (withCounters (m .inputs) cs); body = d }
+countersPut m n cs d = record { refusal = n; after = withCounters m cs; body = d }
 
 abbrev pub modesPut : Module → ℕ → List ℕ → Served
-modesPut m n ms = plain n (withInputs m (withModes (m .inputs) ms))
+modesPut m n ms = plain n (withModes m ms)

@@ -59,8 +59,10 @@ pub fn put_outputs(m: Module, refusal: u8, outputs: [Output; 16]) -> Served
 pub fn put_thermostats(m: Module, refusal: u8, thermostats: [Thermostat; 16]) -> Served
     ensures { λ r. ⌜ r ≡ plain refusal (withThermostats m thermostats) ⌝ }
 {
+    let mut settings = m.settings;
+    settings.thermostats = thermostats;
     let mut next = m;
-    next.thermostats = thermostats;
+    next.settings = settings;
     bare(refusal, next)
 }
 
@@ -83,10 +85,10 @@ pub fn put_counters(m: Module, refusal: u8, counters: [u16; 16], body: Data) -> 
 pub fn put_modes(m: Module, refusal: u8, modes: [u8; 16]) -> Served
     ensures { λ r. ⌜ r ≡ modesPut m refusal modes ⌝ }
 {
-    let mut x = m.inputs;
-    x.modes = modes;
+    let mut settings = m.settings;
+    settings.modes = modes;
     let mut next = m;
-    next.inputs = x;
+    next.settings = settings;
     bare(refusal, next)
 }
 

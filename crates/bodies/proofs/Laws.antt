@@ -7,7 +7,7 @@ use borrow.Author.Tests.{not-true, not-false}
 use Rattle.lists.specs.Tests.{within}
 use Rattle.lists.proofs.Choices.{below, not-and}
 use Rattle.model.specs.declared.Module.{Module}
-use Rattle.model.specs.Refusals.{Request, refuse8, judged}
+use Rattle.model.specs.Refusals.{Request, refuse, judged}
 use Rattle.answers.specs.Parts.{servedOf, plain}
 use Rattle.answers.proofs.Laws.{length-refused, length-right}
 
@@ -24,9 +24,9 @@ module _ (low high x : ℕ) where
   is-inside e = not-false _ (sym (outside low high x) ∙ e)
 
 -- a body of a wrong length, byte count or quantity, whatever the listed function
-pub refused-8 : (m : Module) (q : Request Module) (wrong : Bool) → wrong ≡ true → q .unlisted ≡ false → plain 8 m ≡ servedOf (judged m (refuse8 wrong q))
+pub refused-8 : (m : Module) (q : Request Module) (wrong : Bool) → wrong ≡ true → q .holds 7 ≡ false → plain 8 m ≡ servedOf (judged m (refuse 8 wrong q))
 refused-8 m q wrong e h = ap servedOf (length-refused m q wrong e h)
 
 -- and one that passes
-pub passed-8 : (m : Module) (q : Request Module) (wrong : Bool) → wrong ≡ false → servedOf (judged m q) ≡ servedOf (judged m (refuse8 wrong q))
+pub passed-8 : (m : Module) (q : Request Module) (wrong : Bool) → wrong ≡ false → servedOf (judged m q) ≡ servedOf (judged m (refuse 8 wrong q))
 passed-8 m q wrong e = ap servedOf (length-right m q wrong e)

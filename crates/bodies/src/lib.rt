@@ -1,6 +1,7 @@
 // What every Modbus function shares: the checks of a body, the echo of a write, the permission, and the reply or exception.
 ghost use mathlib.Core.Path.{_≡_};
-ghost use Rattle.model.specs.Modbus.{quantityWrong, countWrong, modbusUsed};
+ghost use Rattle.model.specs.Modbus.{quantityWrong, countWrong, modbusWire};
+ghost use Rattle.model.specs.Wire.{usedUp};
 ghost use Rattle.answers.specs.Parts.{plain};
 ghost use Rattle.bodies.specs.Parts.{headOf, echoed, answeredTo};
 use answers::Handled;
@@ -68,7 +69,7 @@ pub fn echo(s: Served, b: &[u8]) -> Served
 
 // A request that passes 1 to 6 uses the port's permission up.
 pub fn use_up(m: Module) -> Module
-    ensures { λ r. ⌜ r ≡ modbusUsed m ⌝ }
+    ensures { λ r. ⌜ r ≡ usedUp modbusWire m ⌝ }
 {
     let modbus = settings::permitted(m.modbus, false);
     let mut next = m;

@@ -14,7 +14,7 @@ use Rattle.lists.proofs.Walks.{walk-splits, all-on}
 use Rattle.model.specs.declared.Output.{Output}
 use Rattle.model.specs.declared.Reading.{Reading}
 use Rattle.model.specs.declared.Thermostat.{Thermostat}
-use Rattle.model.specs.Refusals.{refused, judged}
+use Rattle.model.specs.Refusals.{judged, accepting, refuse}
 use Rattle.model.specs.Temperature.{freeAt}
 use Rattle.model.specs.Outputs.{numberFits, setOutput, actOn}
 use Rattle.model.specs.Registers.{bitGroup, outside, writeCoils}
@@ -54,7 +54,7 @@ whole r hs a bits os h =
     (go (all (λ (e : Entry). freeAt r hs (e .number)) (numbered (a + 1) bits)) (foldl setOutput os (numbered (a + 1) bits)))
   where
     go : (b : Bool) (after : List Output)
-        → cond b (switched after) (notSwitched os) ≡ switchedOf (cond (not b) (refused 12 os) (record { refusal = 0; part = after; reply = [] }))
+        → cond b (switched after) (notSwitched os) ≡ switchedOf (judged os (refuse 12 (not b) (accepting after [])))
     go true after = refl
     go false after = refl
 

@@ -7,7 +7,7 @@ ghost use lib.Dec.{eqb};
 ghost use lib.ListN.{getD};
 ghost use Rattle.lists.specs.Tests.{within};
 ghost use Rattle.lists.specs.Numbers.{bitAt};
-ghost use Rattle.model.specs.Refusals.{judged, refuse11};
+ghost use Rattle.model.specs.Refusals.{judged, refuse};
 ghost use Rattle.model.specs.Registers.{writePulse, writeCoils};
 ghost use Rattle.model.specs.Modbus.{words, bitsFrom};
 ghost use Rattle.relays.specs.Parts.{switchedOf};
@@ -82,7 +82,7 @@ pub fn write_coils(
 
 // 05: one coil, on by FF00, off by 0000.
 pub fn write_coil(r: Reading, hs: [Thermostat; 16], a: u16, v: u16, os: [Output; 16]) -> Switched
-    ensures { λ q. ⌜ q ≡ switchedOf (judged os (refuse11 (not (eqb v 0xFF00 || eqb v 0x0000)) (writeCoils r hs a (v / 0xFF00 ∷ []) os))) ⌝ }
+    ensures { λ q. ⌜ q ≡ switchedOf (judged os (refuse 11 (not (eqb v 0xFF00 || eqb v 0x0000)) (writeCoils r hs a (v / 0xFF00 ∷ []) os))) ⌝ }
 {
     if groups::is_outside(groups::BITS, a, 1) {
         return relays::answer(9, os);

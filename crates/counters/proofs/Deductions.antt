@@ -6,7 +6,7 @@ use mathlib.Core.List.{List, [], foldl}
 use Rattle.lists.specs.Entries.{Entry}
 use Rattle.lists.specs.Walk.{walk, allPass}
 use Rattle.lists.proofs.Walks.{walk-splits}
-use Rattle.model.specs.Refusals.{refused, judged}
+use Rattle.model.specs.Refusals.{judged, accepting, refuse}
 use Rattle.model.specs.Counters.{deductible, deductOne, deduct}
 use Rattle.counters.specs.declared.Judged.{Judged}
 use Rattle.counters.specs.Answers.{judgedOf}
@@ -22,11 +22,11 @@ notDeducted cs = record { refusal = 11; counters = cs }
 abbrev pub deducting : List ℕ → List ℕ → List Entry → Judged
 deducting cs = walk deductible deductOne deducted (notDeducted cs)
 
+by-test : (cs : List ℕ) (b : Bool) (after : List ℕ) → cond b (deducted after) (notDeducted cs) ≡ judgedOf (judged cs (refuse 11 (not b) (accepting after [])))
+unfolding judged
+by-test cs true after = refl
+by-test cs false after = refl
+
 pub deduct-walk : (cs : List ℕ) (es : List Entry) → deducting cs cs es ≡ judgedOf (judged cs (deduct es cs))
-unfolding deduct judged
-deduct-walk cs es = walk-splits deductible deductOne deducted (notDeducted cs) es cs ∙ go (allPass deductible deductOne cs es) (foldl deductOne cs es)
-  where
-    go : (b : Bool) (after : List ℕ)
-        → cond b (deducted after) (notDeducted cs) ≡ judgedOf (cond (not b) (refused 11 cs) (record { refusal = 0; part = after; reply = [] }))
-    go true after = refl
-    go false after = refl
+unfolding deduct
+deduct-walk cs es = walk-splits deductible deductOne deducted (notDeducted cs) es cs ∙ by-test cs (allPass deductible deductOne cs es) (foldl deductOne cs es)

@@ -9,7 +9,7 @@ use Rattle.lists.specs.Tests.{all}
 use Rattle.lists.specs.Data.{dataOf, extended}
 use Rattle.lists.specs.Numbers.{bytes}
 use Rattle.lists.proofs.DataLaws.{extend-law}
-use Rattle.model.specs.Refusals.{refused, judged}
+use Rattle.model.specs.Refusals.{judged, refused, accepting, refuse}
 use Rattle.model.specs.Samples.{counterBits, counterBytes}
 use Rattle.model.specs.Counters.{itemsOf, numberIn, parameters, readOne, valuesRead, readCounters}
 use Rattle.model.proofs.Short.{counters-short}
@@ -56,6 +56,6 @@ module _ (d cs : List ℕ) where
 
       go : (b : Bool)
           → _≡_ {A = Readout} (cond b (record { refusal = 0; counters = after; reply = extended (dataOf (counterBits ∷ [])) values }) (readoutOf (refused 11 cs)))
-          (readoutOf (cond (not b) (refused 11 cs) (record { refusal = 0; part = after; reply = counterBits ∷ values })))
+          (readoutOf (judged cs (refuse 11 (not b) (accepting after (counterBits ∷ values)))))
       go true = rw fits
       go false = refl

@@ -25,8 +25,8 @@ judgedOf o = record { refusal = o .refusal; counters = o .part }
 abbrev pub modedOf : Done (List ℕ) → Moded
 modedOf o = record { refusal = o .refusal; modes = o .part }
 
-abbrev pub samplingOf : Done Inputs → SamplingSet
-samplingOf o = record { refusal = o .refusal; inputs = o .part }
+abbrev pub samplingOf : Done ℕ → SamplingSet
+samplingOf o = record { refusal = o .refusal; sampling = o .part }
 
 -- the number in a parameter of 60H is one
 unfoldable pub readable : ℕ → Bool

@@ -12,7 +12,6 @@ ghost use Rattle.octets.specs.Answers.{toldOf};
 ghost use Rattle.counters.specs.Answers.{readoutOf, judgedOf, modedOf, samplingOf};
 ghost use Rattle.counters.specs.Answers.{readable, asksEvery, everyOf, readStep, readStart, readRest, readNamed};
 use lists::Data;
-use model::Inputs;
 use octets::Told;
 
 // 60H: the refusal's number or 0, the counters after, and the reply's data.
@@ -34,10 +33,10 @@ pub struct Moded {
     pub modes: [u8; 16],
 }
 
-// 62H: the refusal's number or 0, and the inputs after.
+// 62H: the refusal's number or 0, and the sampling number after.
 pub struct SamplingSet {
     pub refusal: u8,
-    pub inputs: Inputs,
+    pub sampling: u8,
 }
 
 // Whether a parameter of 60H has the number of an input.
@@ -356,7 +355,7 @@ fn show_modes(ms: [u8; 16], d: &[u8]) -> Data
 
 // 6BH: read modes.
 pub fn read_modes(ms: [u8; 16], d: &[u8]) -> Told
-    ensures { λ r. ⌜ r ≡ toldOf (judged tt (listRead {P = Unit {0}} (modeShown ms) (now (d .entry)) tt)) ⌝ }
+    ensures { λ r. ⌜ r ≡ toldOf (listRead (modeShown ms) (now (d .entry))) ⌝ }
 {
     let refusal = items::list_refusal(d);
     if refusal != 0 {
@@ -366,34 +365,34 @@ pub fn read_modes(ms: [u8; 16], d: &[u8]) -> Told
 }
 
 // 62H: set the sampling number; 0 is refused.
-pub fn set_sampling(x: Inputs, d: &[u8]) -> SamplingSet
-    ensures { λ r. ⌜ r ≡ samplingOf (judged x (setSampling (now (d .entry)) x)) ⌝ }
+pub fn set_sampling(before: u8, d: &[u8]) -> SamplingSet
+    ensures { λ r. ⌜ r ≡ samplingOf (judged before (setSampling (now (d .entry)))) ⌝ }
 {
     if d.len() != 1 {
         return SamplingSet {
             refusal: 8,
-            inputs: x,
+            sampling: before,
         };
     }
     let sampling = d[0];
     if sampling == 0 {
         return SamplingSet {
             refusal: 11,
-            inputs: x,
+            sampling: before,
         };
     }
     SamplingSet {
         refusal: 0,
-        inputs: Inputs { sampling, ..x },
+        sampling,
     }
 }
 
 // 63H: read it.
-pub fn read_sampling(x: Inputs, d: &[u8]) -> Told
-    ensures { λ r. ⌜ r ≡ toldOf (judged tt (readSampling {P = Unit {0}} (now (d .entry)) x tt)) ⌝ }
+pub fn read_sampling(sampling: u8, d: &[u8]) -> Told
+    ensures { λ r. ⌜ r ≡ toldOf (readSampling (now (d .entry)) sampling) ⌝ }
 {
     if d.len() != 0 {
         return octets::refuse(8);
     }
-    octets::tell(octets::push(octets::empty(), x.sampling))
+    octets::tell(octets::push(octets::empty(), sampling))
 }

@@ -7,7 +7,10 @@ use lib.ListN.{length}
 use borrow.Author.Tests.{not-false}
 use Rattle.lists.proofs.Choices.{within-low, within-high, passed}
 use Rattle.model.specs.Frames.{spinelTo, instructionOf, modbusTo, functionOf}
-use Rattle.model.specs.Refusals.{frameLengthWrong, shapeWrong, sumWrong, crcWrong, spinelAddressWrong, modbusAddressWrong, spinelBroadcastWrong, modbusBroadcastWrong, spinelFrameRefusal, modbusFrameRefusal}
+use Rattle.model.specs.Wire.{frameRefusal}
+use Rattle.model.specs.Spinel.{spinelWire}
+use Rattle.model.specs.Modbus.{modbusWire}
+use Rattle.model.specs.Refusals.{frameLengthWrong, shapeWrong, sumWrong, crcWrong, spinelAddressWrong, modbusAddressWrong, spinelBroadcastWrong, modbusBroadcastWrong}
 
 module _ (least : ℕ) (f : List ℕ) (h : frameLengthWrong least f ≡ false) where
   pub at-least : least ≤ length f
@@ -24,8 +27,8 @@ pub record SpinelPasses (own : ℕ) (f : List ℕ) : Type 0 where
   pub address : spinelAddressWrong own (spinelTo f) ≡ false
   pub broadcast : spinelBroadcastWrong (spinelTo f) (instructionOf f) ≡ false
 
-pub spinel-passes : (own : ℕ) (f : List ℕ) → spinelFrameRefusal own f ≡ 0 → SpinelPasses own f
-unfolding spinelFrameRefusal
+pub spinel-passes : (own : ℕ) (f : List ℕ) → frameRefusal spinelWire own f ≡ 0 → SpinelPasses own f
+unfolding frameRefusal
 spinel-passes own f h =
     let a = passed (frameLengthWrong 9 f) 1 _ h in
     let b = passed (shapeWrong f) 2 _ (a .1) in
@@ -41,8 +44,8 @@ pub record ModbusPasses (own : ℕ) (f : List ℕ) : Type 0 where
   pub address : modbusAddressWrong own (modbusTo f) ≡ false
   pub broadcast : modbusBroadcastWrong (modbusTo f) (functionOf f) ≡ false
 
-pub modbus-passes : (own : ℕ) (f : List ℕ) → modbusFrameRefusal own f ≡ 0 → ModbusPasses own f
-unfolding modbusFrameRefusal
+pub modbus-passes : (own : ℕ) (f : List ℕ) → frameRefusal modbusWire own f ≡ 0 → ModbusPasses own f
+unfolding frameRefusal
 modbus-passes own f h =
     let a = passed (frameLengthWrong 4 f) 1 _ h in
     let b = passed (crcWrong f) 3 _ (a .1) in

@@ -5,7 +5,10 @@ ghost use lib.ListN.{length};
 ghost use lib.Seq.{paste};
 ghost use Rattle.lists.specs.Data.{padded, dataOf};
 ghost use Rattle.model.specs.Frames.{spinelData, modbusBody, exceptionFunction, exceptionReply};
-ghost use Rattle.model.specs.Refusals.{frameLengthWrong, shapeWrong, sumWrong, crcWrong, spinelAddressWrong, modbusAddressWrong, spinelBroadcastWrong, modbusBroadcastWrong, spinelFrameRefusal, modbusFrameRefusal, ackOf, exceptionOf};
+ghost use Rattle.model.specs.Refusals.{frameLengthWrong, shapeWrong, sumWrong, crcWrong, spinelAddressWrong, modbusAddressWrong, spinelBroadcastWrong, modbusBroadcastWrong, ackOf, exceptionOf};
+ghost use Rattle.model.specs.Wire.{frameRefusal};
+ghost use Rattle.model.specs.Spinel.{spinelWire};
+ghost use Rattle.model.specs.Modbus.{modbusWire};
 ghost use Rattle.frames.specs.Replies.{spinelHead, modbusHead, spinelReplied, modbusReplied};
 use lists::Data;
 
@@ -86,7 +89,7 @@ fn modbus_broadcast_wrong(to: u8, function: u8) -> bool
 
 // Refusals 2 to 6 of a Spinel frame in checking order, or 0.
 pub fn spinel_refusal(own: u8, frame: &[u8]) -> u8
-    ensures { λ r. ⌜ r ≡ spinelFrameRefusal own (now (frame .entry)) ⌝ }
+    ensures { λ r. ⌜ r ≡ frameRefusal spinelWire own (now (frame .entry)) ⌝ }
 {
     if frame_length_wrong(9, frame) {
         return 2;
@@ -108,7 +111,7 @@ pub fn spinel_refusal(own: u8, frame: &[u8]) -> u8
 
 // Refusals 2 to 6 of a Modbus frame in checking order, or 0; 3 is Spinel's alone.
 pub fn modbus_refusal(own: u8, frame: &[u8]) -> u8
-    ensures { λ r. ⌜ r ≡ modbusFrameRefusal own (now (frame .entry)) ⌝ }
+    ensures { λ r. ⌜ r ≡ frameRefusal modbusWire own (now (frame .entry)) ⌝ }
 {
     if frame_length_wrong(4, frame) {
         return 2;

@@ -42,7 +42,7 @@ pub const BITS: Group = Group {
     count: 16,
 };
 
-// 9: n registers from a on do not all lie in the group.
+// 9: n registers from a on are none, or do not all lie in the group.
 pub fn is_outside(g: Group, a: u16, n: usize) -> bool
     ensures { λ r. ⌜ r ≡ outside g a n ⌝ }
 {
@@ -55,7 +55,7 @@ pub fn is_outside(g: Group, a: u16, n: usize) -> bool
     if end < at {
         return true;
     }
-    end - at < n
+    (n == 0) | (end - at < n)
 }
 
 // How far register a stands behind the group's first.

@@ -12,6 +12,7 @@ use Rattle.lists.specs.Numbers.{bitAt}
 use Rattle.lists.proofs.Done.{length-mapi}
 use Rattle.lists.proofs.Somes.{some-any, some-false, none-below, mapi-same, mapi-mapi}
 use Rattle.model.specs.declared.Inputs.{Inputs}
+use Rattle.model.specs.declared.Settings.{Settings}
 use Rattle.model.specs.declared.Line.{Line}
 use Rattle.model.specs.State.{freshLine}
 use Rattle.model.specs.Samples.{isEdge, edges, selects, selectedEdge, counted, linesSampled, countersSampled, inputsSampled}
@@ -63,16 +64,16 @@ pub selected-formula : (mode : ℕ) (a b : Bool) → (not (Bool·beq a b) && (eq
 selected-formula mode a b = ap (not (Bool·beq a b) &&_) (selects-formula mode b)
 
 -- the inputs' part of a sample, by whether a line had an edge
-module _ (bits : ℕ) (x : Inputs) (now : List Line) (e : now ≡ linesSampled (x .sampling) bits (x .lines)) where
-  pub with-edge : (edged : Bool) (cs : List ℕ) → edged ≡ anyEdge (x .lines) now → edged ≡ true → cs ≡ countersSampled (x .modes) (x .lines) now (x .counters)
-      → record { inputs = record { lines = now; modes = x .modes; counters = cs; sampling = x .sampling }; edged = true } ≡ sampledOf bits x
+module _ (bits : ℕ) (s : Settings) (x : Inputs) (now : List Line) (e : now ≡ linesSampled (s .sampling) bits (x .lines)) where
+  pub with-edge : (edged : Bool) (cs : List ℕ) → edged ≡ anyEdge (x .lines) now → edged ≡ true → cs ≡ countersSampled (s .modes) (x .lines) now (x .counters)
+      → record { inputs = record { lines = now; counters = cs }; edged = true } ≡ sampledOf bits s x
   unfolding sampledOf inputsSampled
   with-edge edged cs p t q = rw (q, ← t, p, e)
 
   pub without-edge : (edged : Bool) → edged ≡ anyEdge (x .lines) now → edged ≡ false → length now ≡ length (x .counters)
-      → record { inputs = record { lines = now; modes = x .modes; counters = x .counters; sampling = x .sampling }; edged = false } ≡ sampledOf bits x
+      → record { inputs = record { lines = now; counters = x .counters }; edged = false } ≡ sampledOf bits s x
   unfolding sampledOf inputsSampled linesSampled
   without-edge edged p t l =
       let long : length (x .lines) ≡ length (x .counters) = sym (length-mapi _ (x .lines)) ∙ ap length (sym e) ∙ l in
-      let same : countersSampled (x .modes) (x .lines) now (x .counters) ≡ x .counters = no-edge (x .lines) now (x .modes) (x .counters) long (sym p ∙ t) in
+      let same : countersSampled (s .modes) (x .lines) now (x .counters) ≡ x .counters = no-edge (x .lines) now (s .modes) (x .counters) long (sym p ∙ t) in
       rw (← t, p) (rw (← e, same))

@@ -6,6 +6,7 @@ use Rattle.lists.specs.Tests.{any}
 use Rattle.lists.specs.Mapi.{mapi}
 use Rattle.lists.specs.Numbers.{bitAt, bitsNumber}
 use Rattle.model.specs.declared.Inputs.{Inputs}
+use Rattle.model.specs.declared.Settings.{Settings}
 use Rattle.model.specs.declared.Line.{Line}
 use Rattle.model.specs.Samples.{edges, inputsSampled}
 use Rattle.inputs.specs.declared.Sampled.{Sampled}
@@ -22,5 +23,5 @@ anyMasked mask was now = any (λ b. b) (mapi (λ i b. b && bitAt mask i) (edges 
 unfoldable pub stableBits : List Line → ℕ
 stableBits xs = bitsNumber (map (λ (y : Line). y .stable) xs)
 
-unfoldable pub sampledOf : ℕ → Inputs → Sampled
-sampledOf bits x = record { inputs = inputsSampled bits x; edged = anyEdge (x .lines) (inputsSampled bits x .lines) }
+unfoldable pub sampledOf : ℕ → Settings → Inputs → Sampled
+sampledOf bits s x = record { inputs = inputsSampled bits s x; edged = anyEdge (x .lines) (inputsSampled bits s x .lines) }

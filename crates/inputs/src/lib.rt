@@ -7,6 +7,7 @@ ghost use Rattle.model.specs.Samples.{lineSampled, linesSampled, isEdge, edges,
 ghost use Rattle.inputs.specs.Passes.{anyEdge, anyMasked, sampledOf, stableBits};
 use model::Inputs;
 use model::Line;
+use model::Settings;
 
 // The inputs after a sample, and whether any of them had an edge.
 pub struct Sampled {
@@ -147,15 +148,15 @@ pub fn stable_bits(a: [Line; 16]) -> u16
 }
 
 // The inputs' part of a sample. Without an edge no counter moves, and the pass over them is left out.
-pub fn sample(x: Inputs, bits: u16) -> Sampled
-    ensures { λ r. ⌜ r ≡ sampledOf bits x ⌝ }
+pub fn sample(s: Settings, x: Inputs, bits: u16) -> Sampled
+    ensures { λ r. ⌜ r ≡ sampledOf bits s x ⌝ }
 {
     let was = x.lines;
-    let now = sample_lines(was, x.sampling, bits);
+    let now = sample_lines(was, s.sampling, bits);
     let mut next = x;
     next.lines = now;
     if any_edge(was, now) {
-        let modes = x.modes;
+        let modes = s.modes;
         let counters = x.counters;
         let counted = count_lines(counters, modes, was, now);
         next.counters = counted;

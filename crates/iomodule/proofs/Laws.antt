@@ -42,22 +42,22 @@ due-noticed n was now = go (anyEdge was now) refl
     go false e = rw (no-mask was now (n .mask) e) (sym (and-false (isOn n)))
 
 -- the state after a sample, from its parts
-pub stepped-law : (bits : ℕ) (m : Module) (s : Sampled) (os : List Output) (due : Bool) → s ≡ sampledOf bits (m .inputs) → os ≡ map pulsed (m .outputs)
-    → due ≡ noticeDue (m .notice) (s .edged) (m .inputs .lines) (s .inputs .lines)
+pub stepped-law : (bits : ℕ) (m : Module) (s : Sampled) (os : List Output) (due : Bool) → s ≡ sampledOf bits (m .settings) (m .inputs) → os ≡ map pulsed (m .outputs)
+    → due ≡ noticeDue (m .settings .notice) (s .edged) (m .inputs .lines) (s .inputs .lines)
     → record { after = withOutputs (withInputs m (s .inputs)) os; noticed = due } ≡ steppedOf bits m
 unfolding steppedOf sampled sampledOf
 stepped-law bits m s os due e q d =
-    rw (d, e, q) (ap (λ (b : Bool). record { after = withOutputs (withInputs m (inputsSampled bits (m .inputs))) (map pulsed (m .outputs)); noticed = b }) (due-noticed (m .notice) (m .inputs .lines) (inputsSampled bits (m .inputs) .lines)))
+    rw (d, e, q) (ap (λ (b : Bool). record { after = withOutputs (withInputs m (inputsSampled bits (m .settings) (m .inputs))) (map pulsed (m .outputs)); noticed = b }) (due-noticed (m .settings .notice) (m .inputs .lines) (inputsSampled bits (m .settings) (m .inputs) .lines)))
 
 -- the call's answer and buffer, by whether the notice is due
 module _ (room bits : ℕ) (m : Module) (s : Stepped) (old : List ℕ) (enough : 256 ≤ room) (e : s ≡ steppedOf bits m) where
   pub with-notice : (b : ℕ) (d : Data) (new : List ℕ) → s .noticed ≡ true → b ≡ stableBits (s .after .inputs .lines)
-      → d ≡ noticeData (s .after .spinel .address) (s .after .notice .signature) b → new ≡ over (take 11 (d .bytes)) old
+      → d ≡ noticeData (s .after .spinel .address) (s .after .settings .notice .signature) b → new ≡ over (take 11 (d .bytes)) old
       → Answered (sampleCall room bits m) (record { refusal = 0; len = 11; after = s .after }) old new
   unfolding sampleCall sampled noticeWritten noticeFrame noticeData steppedOf stableBits
   with-notice b d new t p q w =
-      let due : noticed (m .notice) (edges (m .inputs .lines) (inputsSampled bits (m .inputs) .lines)) ≡ true = ap (λ (x : Stepped). x .noticed) (sym e) ∙ t in
-      let l : List ℕ = spinelReply (m .spinel .address) (m .notice .signature) 0x0D (bytes 2 (stableBits (inputsSampled bits (m .inputs) .lines))) in
+      let due : noticed (m .settings .notice) (edges (m .inputs .lines) (inputsSampled bits (m .settings) (m .inputs) .lines)) ≡ true = ap (λ (x : Stepped). x .noticed) (sym e) ∙ t in
+      let l : List ℕ = spinelReply (m .spinel .address) (m .settings .notice .signature) 0x0D (bytes 2 (stableBits (inputsSampled bits (m .settings) (m .inputs) .lines))) in
       let long : length l ≡ 11 = length-spinelReply _ _ _ _ ∙ ap (_+ 9) (length-bytes 2 _) in
       let data′ : d ≡ dataOf l = q ∙ rw (p, e) in
       let shown : take 11 (d .bytes) ≡ l = rw data′ (rw long at (held-law l)) in
@@ -67,5 +67,5 @@ module _ (room bits : ℕ) (m : Module) (s : Stepped) (old : List ℕ) (enough :
   pub without-notice : s .noticed ≡ false → Answered (sampleCall room bits m) (record { refusal = 0; len = 0; after = s .after }) old old
   unfolding sampleCall sampled noticeWritten steppedOf
   without-notice t =
-      let due : noticed (m .notice) (edges (m .inputs .lines) (inputsSampled bits (m .inputs) .lines)) ≡ false = ap (λ (x : Stepped). x .noticed) (sym e) ∙ t in
+      let due : noticed (m .settings .notice) (edges (m .inputs .lines) (inputsSampled bits (m .settings) (m .inputs) .lines)) ≡ false = ap (λ (x : Stepped). x .noticed) (sym e) ∙ t in
       rw (le-ltb room 256 enough, due) (record { answer = rw e; buffer = refl })

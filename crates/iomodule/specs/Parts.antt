@@ -25,4 +25,4 @@ noticeDue n edged was now = edged && (isOn n && anyMasked (n .mask) was now)
 
 -- the state after a sample, and whether a notice is due
 unfoldable pub steppedOf : ℕ → Module → Stepped
-steppedOf bits m = record { after = sampled bits m .after; noticed = noticed (m .notice) (edges (m .inputs .lines) (sampled bits m .after .inputs .lines)) }
+steppedOf bits m = record { after = sampled bits m .after; noticed = noticed (m .settings .notice) (edges (m .inputs .lines) (sampled bits m .after .inputs .lines)) }

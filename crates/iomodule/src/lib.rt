@@ -83,11 +83,12 @@ fn step(m: Module, bits: u16) -> Stepped
     let x = m.inputs;
     let was = x.lines;
     let os = m.outputs;
-    let s = inputs::sample(x, bits);
+    let kept = m.settings;
+    let s = inputs::sample(kept, x, bits);
     let stepped = s.inputs;
     let now = stepped.lines;
     let pulsed = outputs::pulse_outputs(os);
-    let notice = m.notice;
+    let notice = kept.notice;
     let noticed = notice_due(notice, s.edged, was, now);
     let mut next = m;
     next.inputs = stepped;
@@ -130,7 +131,8 @@ pub fn sample(m: Module, bits: u16, reply: &mut [u8]) -> Answer
         let x = after.inputs;
         let lines = x.lines;
         let p = after.spinel;
-        let n = after.notice;
+        let kept = after.settings;
+        let n = kept.notice;
         let d = notice_data(p.address, n.signature, inputs::stable_bits(lines));
         let bytes = d.bytes;
         copy_out(bytes, 11, reply);
@@ -152,7 +154,8 @@ fn heated(m: Module, good: bool, tenths: i16) -> Module
     ensures { λ r. ⌜ r ≡ taken (readingOf good tenths) m ⌝ }
 {
     let os = m.outputs;
-    let hs = m.thermostats;
+    let kept = m.settings;
+    let hs = kept.thermostats;
     let before = m.last;
     let t = thermostat::take_reading(os, hs, before, thermostat::reading_of(good, tenths));
     let outputs = t.outputs;

@@ -11,7 +11,7 @@ use Rattle.lists.specs.Tests.{all}
 use Rattle.lists.specs.Data.{dataOf, extended, pushed}
 use Rattle.lists.specs.declared.Data.{Data}
 use Rattle.lists.proofs.DataLaws.{extend-law}
-use Rattle.model.specs.Refusals.{refused, judged}
+use Rattle.model.specs.Refusals.{judged, refuse, telling}
 use Rattle.model.specs.Counters.{isNumber, itemsOf, everyNumber, listed, listRead}
 use Rattle.model.proofs.Short.{list-short}
 use Rattle.octets.specs.declared.Told.{Told}
@@ -71,25 +71,25 @@ pub shown-data : (show : ℕ → List ℕ) (d : List ℕ)
     → ((n : ℕ) → length (show n) ≤ 16)
     → extended (dataOf []) (flatMap show (listed d)) ≡ dataOf (flatMap show (listed d))
 unfolding listRead
-shown-data show d e s = extend-law (flatMap show (listed d)) [] (omega (arith, list-short {P = ℕ} 16 256 show s (omega arith) d 0 .bound e))
+shown-data show d e s = extend-law (flatMap show (listed d)) [] (omega (arith, list-short 16 256 show s (omega arith) d .bound e))
 
 -- A list read: judged by `list_refusal`, and shown by such a loop.
-module _ {P : Type 0} (show : ℕ → List ℕ) (d : List ℕ) (p : P) where
-  pub read-refused : (listRefusal d ≡ 0 → ⊥) → record { refusal = listRefusal d; reply = dataOf [] } ≡ toldOf (judged p (listRead show d p))
+module _ (show : ℕ → List ℕ) (d : List ℕ) where
+  pub read-refused : (listRefusal d ≡ 0 → ⊥) → record { refusal = listRefusal d; reply = dataOf [] } ≡ toldOf (listRead show d)
   unfolding listRefusal listRead judged
   read-refused h = go (itemsOf 1 d) (all isNumber (listed d)) h
     where
       go : (a b : Bool)
           → (_≡_ {A = ℕ} (cond (not a) 8 (cond (not b) 11 0)) 0 → ⊥)
           → _≡_ {A = Told} (record { refusal = cond (not a) 8 (cond (not b) 11 0); reply = dataOf [] })
-          (toldOf (cond (not a) (refused 8 p) (cond (not b) (refused 11 p) (record { refusal = 0; part = p; reply = flatMap show (listed d) }))))
+          (toldOf (refuse 8 (not a) (refuse 11 (not b) (telling (flatMap show (listed d))))))
       go true true n = absurd (n refl)
       go true false n = refl
       go false b n = refl
 
   pub read-told : listRefusal d ≡ 0
       → ((n : ℕ) → length (show n) ≤ 16)
-      → record { refusal = 0; reply = extended (dataOf []) (flatMap show (listed d)) } ≡ toldOf (judged p (listRead show d p))
+      → record { refusal = 0; reply = extended (dataOf []) (flatMap show (listed d)) } ≡ toldOf (listRead show d)
   unfolding listRefusal listRead judged
   read-told h s = go (itemsOf 1 d) (all isNumber (listed d)) h (λ e. shown-data show d e s)
     where
@@ -97,7 +97,7 @@ module _ {P : Type 0} (show : ℕ → List ℕ) (d : List ℕ) (p : P) where
           → _≡_ {A = ℕ} (cond (not a) 8 (cond (not b) 11 0)) 0
           → (not a ≡ false → extended (dataOf []) (flatMap show (listed d)) ≡ dataOf (flatMap show (listed d)))
           → _≡_ {A = Told} (record { refusal = 0; reply = extended (dataOf []) (flatMap show (listed d)) })
-          (toldOf (cond (not a) (refused 8 p) (cond (not b) (refused 11 p) (record { refusal = 0; part = p; reply = flatMap show (listed d) }))))
+          (toldOf (refuse 8 (not a) (refuse 11 (not b) (telling (flatMap show (listed d))))))
       go true true n e = rw (e refl)
       go true false n e = absurd (omega arith)
       go false b n e = absurd (omega arith)

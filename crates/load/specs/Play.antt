@@ -6,7 +6,7 @@ use lib.Bits.{bitXor}
 use lib.Dec.{eqb}
 use lib.ListN.{length, replicate}
 use Rattle.lists.specs.Data.{over}
-use Rattle.model.specs.State.{freshModule, output, notice, withInputs, withOutputs, withNotice}
+use Rattle.model.specs.State.{freshModule, output, notice, withModes, withSampling, withOutputs, withNotice}
 use Rattle.model.specs.Calls.{sampleCall}
 use Rattle.load.specs.declared.Source.{Source}
 use Rattle.load.specs.declared.Played.{Played}
@@ -56,7 +56,7 @@ bufferMany room noisy (suc n) p old = bufferOne room noisy (playMany room noisy 
 -- both edges counted, the notice on for all inputs; the first four outputs pulse, the others for `rest` samples
 unfoldable pub startOf : ℕ → ℕ → Played
 startOf sampling rest = record {
-  after = withNotice (withOutputs (withInputs freshModule (record { lines = freshModule .inputs .lines; modes = replicate 16 3; counters = freshModule .inputs .counters; sampling = sampling }))
+  after = withNotice (withOutputs (withSampling (withModes freshModule (replicate 16 3)) sampling)
       (replicate 4 (output true 3000000) ++ replicate 12 (output true rest))) (notice 0x61 0xFFFF 2);
   source = record { seed = 12345; level = 0 };
   written = 0;

@@ -102,9 +102,9 @@ pub fn start(sampling: u8, rest: u32) -> Played
     ensures { λ r. ⌜ r ≡ startOf sampling rest ⌝ }
 {
     let f = model::fresh();
-    let mut inputs = f.inputs;
-    inputs.modes = [3; 16];
-    inputs.sampling = sampling;
+    let mut settings = f.settings;
+    settings.modes = [3; 16];
+    settings.sampling = sampling;
     let first = Output {
         on: true,
         left: 3_000_000,
@@ -122,11 +122,11 @@ pub fn start(sampling: u8, rest: u32) -> Played
         mask: 0xFFFF,
         signature: 2,
     };
+    settings.notice = notice;
     Played {
         after: Module {
-            inputs,
             outputs,
-            notice,
+            settings,
             ..f
         },
         source: Source {

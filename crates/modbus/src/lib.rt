@@ -5,15 +5,16 @@ ghost use Prim.Native.Nat.{_≤_};
 ghost use lib.ListN.{length};
 ghost use Rattle.model.specs.declared.Line.{Line as LineOf};
 ghost use Rattle.model.specs.Samples.{inputStates};
-ghost use Rattle.model.specs.State.{withInputs, withOutputs, withThermostats, withModbus, withModes, withCounters};
-ghost use Rattle.model.specs.Refusals.{judged, refuse8, onPart};
+ghost use Rattle.model.specs.State.{withOutputs, withModbus, withCounters, withModes, withThermostats};
+ghost use Rattle.model.specs.Refusals.{judged, refuse, onPart, reading};
 ghost use Rattle.model.specs.Outputs.{outputStates};
 ghost use Rattle.model.specs.Temperature.{readingWords};
 ghost use Rattle.model.specs.Registers.{portGroup, counterGroup, modeGroup, outputGroup, readingGroup};
 ghost use Rattle.model.specs.Registers.{readWords, readBits, portWords, outputWord, readThermostat};
 ghost use Rattle.model.specs.Registers.{writePermission, writePort, writeCounters, writeDeductions, writeModes, writePulse, writeThermostat};
 ghost use Rattle.model.specs.Modbus.{startOf, secondOf, quantityWrong, words, registersRead, registersWritten};
-ghost use Rattle.model.specs.Modbus.{coilWritten, registerWritten, coilsWritten, severalWritten, modbusAsked, modbusActed, modbusHandled};
+ghost use Rattle.model.specs.Modbus.{coilWritten, registerWritten, coilsWritten, severalWritten, modbusAsked, modbusWire};
+ghost use Rattle.model.specs.Wire.{frameActed, frameHandled};
 ghost use Rattle.octets.specs.Answers.{toldOf};
 ghost use Rattle.answers.specs.Parts.{servedOf, handledOf};
 use answers::Handled;
@@ -27,21 +28,21 @@ use octets::Told;
 
 // Outputs as coils, n from place a on.
 fn coils_told(os: [Output; 16], a: u16, n: u16) -> Told
-    ensures { λ r. ⌜ r ≡ toldOf {P = Unit {0}} (judged tt (readBits (outputStates os) a n tt)) ⌝ }
+    ensures { λ r. ⌜ r ≡ toldOf (readBits (outputStates os) a n) ⌝ }
 {
     registers::read_bits(readouts::output_bits(os), a, n)
 }
 
 // Stable states of inputs, n from place a on.
 fn inputs_told(lines: [Line; 16], a: u16, n: u16) -> Told
-    ensures { λ r. ⌜ r ≡ toldOf {P = Unit {0}} (judged tt (readBits (map (λ (y : LineOf). y .stable) lines) a n tt)) ⌝ }
+    ensures { λ r. ⌜ r ≡ toldOf (readBits (map (λ (y : LineOf). y .stable) lines) a n) ⌝ }
 {
     registers::read_bits(inputs::stable_bits(lines), a, n)
 }
 
 // 01: coils.
 fn read_coils(m: Module, b: &[u8]) -> Served
-    ensures { λ r. ⌜ r ≡ servedOf (judged m (refuse8 (quantityWrong 2000 (now (b .entry))) (readBits (outputStates (m .outputs)) (startOf (now (b .entry))) (secondOf (now (b .entry))) m))) ⌝ }
+    ensures { λ r. ⌜ r ≡ servedOf (judged m (reading m (refuse 8 (quantityWrong 2000 (now (b .entry))) (readBits (outputStates (m .outputs)) (startOf (now (b .entry))) (secondOf (now (b .entry))))))) ⌝ }
 {
     if bodies::quantity_wrong(2000, b) {
         return bodies::wrong_body(m);
@@ -54,7 +55,7 @@ fn read_coils(m: Module, b: &[u8]) -> Served
 
 // 02: inputs.
 fn read_inputs(m: Module, b: &[u8]) -> Served
-    ensures { λ r. ⌜ r ≡ servedOf (judged m (refuse8 (quantityWrong 2000 (now (b .entry))) (readBits (inputStates (m .inputs)) (startOf (now (b .entry))) (secondOf (now (b .entry))) m))) ⌝ }
+    ensures { λ r. ⌜ r ≡ servedOf (judged m (reading m (refuse 8 (quantityWrong 2000 (now (b .entry))) (readBits (inputStates (m .inputs)) (startOf (now (b .entry))) (secondOf (now (b .entry))))))) ⌝ }
 {
     if bodies::quantity_wrong(2000, b) {
         return bodies::wrong_body(m);
@@ -68,14 +69,14 @@ fn read_inputs(m: Module, b: &[u8]) -> Served
 
 // 1 to 2
 fn read_port(m: Module, a: u16, n: u16) -> Served
-    ensures { λ r. ⌜ r ≡ servedOf (judged m (readWords portGroup (portWords (m .modbus)) a n m)) ⌝ }
+    ensures { λ r. ⌜ r ≡ servedOf (judged m (reading m (readWords portGroup (portWords (m .modbus)) a n))) ⌝ }
 {
     answers::told(m, registers::read_port(m.modbus, a, n))
 }
 
 // 100 to 115
 fn read_counters(m: Module, a: u16, n: u16) -> Served
-    ensures { λ r. ⌜ r ≡ servedOf (judged m (readWords counterGroup (m .inputs .counters) a n m)) ⌝ }
+    ensures { λ r. ⌜ r ≡ servedOf (judged m (reading m (readWords counterGroup (m .inputs .counters) a n))) ⌝ }
 {
     let x = m.inputs;
     let cs = x.counters;
@@ -84,16 +85,16 @@ fn read_counters(m: Module, a: u16, n: u16) -> Served
 
 // 300 to 315
 fn read_modes(m: Module, a: u16, n: u16) -> Served
-    ensures { λ r. ⌜ r ≡ servedOf (judged m (readWords modeGroup (m .inputs .modes) a n m)) ⌝ }
+    ensures { λ r. ⌜ r ≡ servedOf (judged m (reading m (readWords modeGroup (m .settings .modes) a n))) ⌝ }
 {
-    let x = m.inputs;
-    let ms = x.modes;
+    let kept = m.settings;
+    let ms = kept.modes;
     answers::told(m, registers::read_modes(ms, a, n))
 }
 
 // 500 to 515
 fn read_outputs(m: Module, a: u16, n: u16) -> Served
-    ensures { λ r. ⌜ r ≡ servedOf (judged m (readWords outputGroup (map outputWord (m .outputs)) a n m)) ⌝ }
+    ensures { λ r. ⌜ r ≡ servedOf (judged m (reading m (readWords outputGroup (map outputWord (m .outputs)) a n))) ⌝ }
 {
     let os = m.outputs;
     answers::told(m, registers::read_outputs(os, a, n))
@@ -101,15 +102,16 @@ fn read_outputs(m: Module, a: u16, n: u16) -> Served
 
 // 600 to 663
 fn read_thermostat(m: Module, a: u16, n: u16) -> Served
-    ensures { λ r. ⌜ r ≡ servedOf (judged m (readThermostat (m .thermostats) a n m)) ⌝ }
+    ensures { λ r. ⌜ r ≡ servedOf (judged m (reading m (readThermostat (m .settings .thermostats) a n))) ⌝ }
 {
-    let hs = m.thermostats;
+    let kept = m.settings;
+    let hs = kept.thermostats;
     answers::told(m, registers::read_thermostat(hs, a, n))
 }
 
 // The register groups that 03 reads, by the first register.
 fn read_group(m: Module, a: u16, n: u16) -> Served
-    ensures { λ r. ⌜ r ≡ servedOf (judged m (registersRead a n m)) ⌝ }
+    ensures { λ r. ⌜ r ≡ servedOf (judged m (reading m (registersRead a n m))) ⌝ }
 {
     match a {
         1..=2 => read_port(m, a, n),
@@ -123,7 +125,7 @@ fn read_group(m: Module, a: u16, n: u16) -> Served
 
 // 03: registers.
 fn read_registers(m: Module, b: &[u8]) -> Served
-    ensures { λ r. ⌜ r ≡ servedOf (judged m (refuse8 (quantityWrong 125 (now (b .entry))) (registersRead (startOf (now (b .entry))) (secondOf (now (b .entry))) m))) ⌝ }
+    ensures { λ r. ⌜ r ≡ servedOf (judged m (reading m (refuse 8 (quantityWrong 125 (now (b .entry))) (registersRead (startOf (now (b .entry))) (secondOf (now (b .entry))) m)))) ⌝ }
 {
     if bodies::quantity_wrong(125, b) {
         return bodies::wrong_body(m);
@@ -135,7 +137,7 @@ fn read_registers(m: Module, b: &[u8]) -> Served
 
 // 04: the input registers.
 fn read_reading(m: Module, b: &[u8]) -> Served
-    ensures { λ r. ⌜ r ≡ servedOf (judged m (refuse8 (quantityWrong 125 (now (b .entry))) (readWords readingGroup (readingWords (m .reading)) (startOf (now (b .entry))) (secondOf (now (b .entry))) m))) ⌝ }
+    ensures { λ r. ⌜ r ≡ servedOf (judged m (reading m (refuse 8 (quantityWrong 125 (now (b .entry))) (readWords readingGroup (readingWords (m .reading)) (startOf (now (b .entry))) (secondOf (now (b .entry))))))) ⌝ }
 {
     if bodies::quantity_wrong(125, b) {
         return bodies::wrong_body(m);
@@ -170,7 +172,7 @@ fn write_port(m: Module, permitted: bool, a: u16, d: &[u8]) -> Served
 
 // 100 to 115
 fn write_counters(m: Module, a: u16, d: &[u8]) -> Served
-    ensures { λ r. ⌜ r ≡ servedOf (judged m (onPart (λ cs. withInputs m (withCounters (m .inputs) cs)) (writeCounters a (words (now (d .entry))) (m .inputs .counters)))) ⌝ }
+    ensures { λ r. ⌜ r ≡ servedOf (judged m (onPart (withCounters m) (writeCounters a (words (now (d .entry))) (m .inputs .counters)))) ⌝ }
 {
     let x = m.inputs;
     let cs = x.counters;
@@ -181,7 +183,7 @@ fn write_counters(m: Module, a: u16, d: &[u8]) -> Served
 
 // 200 to 215
 fn write_deductions(m: Module, a: u16, d: &[u8]) -> Served
-    ensures { λ r. ⌜ r ≡ servedOf (judged m (onPart (λ cs. withInputs m (withCounters (m .inputs) cs)) (writeDeductions a (words (now (d .entry))) (m .inputs .counters)))) ⌝ }
+    ensures { λ r. ⌜ r ≡ servedOf (judged m (onPart (withCounters m) (writeDeductions a (words (now (d .entry))) (m .inputs .counters)))) ⌝ }
 {
     let x = m.inputs;
     let cs = x.counters;
@@ -192,10 +194,10 @@ fn write_deductions(m: Module, a: u16, d: &[u8]) -> Served
 
 // 300 to 315
 fn write_modes(m: Module, a: u16, d: &[u8]) -> Served
-    ensures { λ r. ⌜ r ≡ servedOf (judged m (onPart (λ ms. withInputs m (withModes (m .inputs) ms)) (writeModes a (words (now (d .entry))) (m .inputs .modes)))) ⌝ }
+    ensures { λ r. ⌜ r ≡ servedOf (judged m (onPart (withModes m) (writeModes a (words (now (d .entry))) (m .settings .modes)))) ⌝ }
 {
-    let x = m.inputs;
-    let ms = x.modes;
+    let kept = m.settings;
+    let ms = kept.modes;
     let s = writes::write_modes(a, d, ms);
     let modes = s.modes;
     answers::put_modes(m, s.refusal, modes)
@@ -203,9 +205,10 @@ fn write_modes(m: Module, a: u16, d: &[u8]) -> Served
 
 // 500 to 515
 fn write_pulse(m: Module, a: u16, d: &[u8]) -> Served
-    ensures { λ r. ⌜ r ≡ servedOf (judged m (onPart (withOutputs m) (writePulse (m .reading) (m .thermostats) a (words (now (d .entry))) (m .outputs)))) ⌝ }
+    ensures { λ r. ⌜ r ≡ servedOf (judged m (onPart (withOutputs m) (writePulse (m .reading) (m .settings .thermostats) a (words (now (d .entry))) (m .outputs)))) ⌝ }
 {
-    let hs = m.thermostats;
+    let kept = m.settings;
+    let hs = kept.thermostats;
     let os = m.outputs;
     let reading = m.reading;
     let s = coils::write_pulse(reading, hs, a, d, os);
@@ -215,9 +218,10 @@ fn write_pulse(m: Module, a: u16, d: &[u8]) -> Served
 
 // 600 to 663
 fn write_thermostat(m: Module, a: u16, d: &[u8]) -> Served
-    ensures { λ r. ⌜ r ≡ servedOf (judged m (onPart (withThermostats m) (writeThermostat a (words (now (d .entry))) (m .thermostats)))) ⌝ }
+    ensures { λ r. ⌜ r ≡ servedOf (judged m (onPart (withThermostats m) (writeThermostat a (words (now (d .entry))) (m .settings .thermostats)))) ⌝ }
 {
-    let hs = m.thermostats;
+    let kept = m.settings;
+    let hs = kept.thermostats;
     let s = writes::write_thermostat(a, d, hs);
     let thermostats = s.thermostats;
     answers::put_thermostats(m, s.refusal, thermostats)
@@ -246,7 +250,8 @@ fn write_coil(m: Module, b: &[u8]) -> Served
     if b.len() != 4 {
         return bodies::wrong_body(m);
     }
-    let hs = m.thermostats;
+    let kept = m.settings;
+    let hs = kept.thermostats;
     let os = m.outputs;
     let reading = m.reading;
     let a = octets::word_from(b, 0);
@@ -276,7 +281,8 @@ fn write_coils(m: Module, b: &[u8]) -> Served
     if bodies::count_wrong(1968, size, b) {
         return bodies::wrong_body(m);
     }
-    let hs = m.thermostats;
+    let kept = m.settings;
+    let hs = kept.thermostats;
     let os = m.outputs;
     let reading = m.reading;
     let a = octets::word_from(b, 0);
@@ -320,7 +326,7 @@ fn serve(m: Module, permitted: bool, function: u8, b: &[u8]) -> Served
 // A frame that passes 2 to 6.
 fn act(m: Module, frame: &[u8]) -> Handled
     requires { ⌜ 4 ≤ length (now frame) ⌝ }
-    ensures { λ r. ⌜ r ≡ handledOf (modbusActed (now (frame .entry)) m) ⌝ }
+    ensures { λ r. ⌜ r ≡ handledOf (frameActed modbusWire (now (frame .entry)) m) ⌝ }
 {
     let port = m.modbus;
     let to = frame[0];
@@ -332,7 +338,7 @@ fn act(m: Module, frame: &[u8]) -> Handled
 
 // Any frame: checks 2 to 6, then the function.
 pub fn handle(m: Module, frame: &[u8]) -> Handled
-    ensures { λ r. ⌜ r ≡ handledOf (modbusHandled (now (frame .entry)) m) ⌝ }
+    ensures { λ r. ⌜ r ≡ handledOf (frameHandled modbusWire (now (frame .entry)) m) ⌝ }
 {
     let port = m.modbus;
     let refusal = frames::modbus_refusal(port.address, frame);

@@ -19,13 +19,17 @@ use Rattle.model.proofs.Exchanges.{sampleOf, temperatureOf, asked, sent
 -- a state of which every part shows a number of its own, 1 to 19
 abbrev marked : Module
 marked = record {
-  inputs = record { lines = line true 2 ∷ []; modes = 3 ∷ []; counters = 4 ∷ []; sampling = 5 };
+  inputs = record { lines = line true 2 ∷ []; counters = 4 ∷ [] };
   outputs = output true 6 ∷ [];
-  presets = preset 7 7 ∷ [];
-  thermostats = thermostat 8 (pos 8) (pos 8) 8 8 ∷ [];
+  settings = record {
+    modes = 3 ∷ [];
+    sampling = 5;
+    presets = preset 7 7 ∷ [];
+    thermostats = thermostat 8 (pos 8) (pos 8) 8 8 ∷ [];
+    notice = notice 11 12 13;
+  };
   reading = Valid (pos 9) (ofBits binary32 9);
   last = Valid (pos 10) (ofBits binary32 10);
-  notice = notice 11 12 13;
   spinel = port 14 15 true;
   modbus = port 17 18 true;
 }
@@ -35,17 +39,17 @@ abbrev parts : Module → List ℕ
 parts m =
     cond (getD (m .inputs .lines) 0 freshLine .stable) 1 0
     ∷ getD (m .inputs .lines) 0 freshLine .run
-    ∷ getD (m .inputs .modes) 0 0
+    ∷ getD (m .settings .modes) 0 0
     ∷ getD (m .inputs .counters) 0 0
-    ∷ m .inputs .sampling
+    ∷ m .settings .sampling
     ∷ getD (m .outputs) 0 freshOutput .left
-    ∷ getD (m .presets) 0 freshPreset .kind
-    ∷ getD (m .thermostats) 0 freshThermostat .flags
+    ∷ getD (m .settings .presets) 0 freshPreset .kind
+    ∷ getD (m .settings .thermostats) 0 freshThermostat .flags
     ∷ getD (readingWords (m .reading)) 1 0
     ∷ getD (readingWords (m .last)) 1 0
-    ∷ m .notice .format
-    ∷ m .notice .mask
-    ∷ m .notice .signature
+    ∷ m .settings .notice .format
+    ∷ m .settings .notice .mask
+    ∷ m .settings .notice .signature
     ∷ m .spinel .address
     ∷ m .spinel .speed
     ∷ cond (m .spinel .permitted) 16 0

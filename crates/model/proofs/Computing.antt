@@ -11,10 +11,11 @@ use Rattle.model.specs.State.{freshModule}
 use Rattle.model.specs.Samples.{lineSampled, linesSampled, selects, selectedEdge, edges, counted, countersSampled, inputsSampled}
 use Rattle.model.specs.Frames.{total, spinelReply, crcBit, crcBits, crcByte, crcOf, withCrc}
 use Rattle.model.specs.Refusals.{shapeWrong, sumWrong, crcWrong, spinelAddressWrong, modbusAddressWrong, spinelBroadcastWrong}
-use Rattle.model.specs.Refusals.{modbusBroadcastWrong, spinelFrameRefusal, modbusFrameRefusal, judged, ackOf, exceptionOf}
+use Rattle.model.specs.Refusals.{modbusBroadcastWrong, checkingOrder, firstHolding, refusalOf, judged, ackOf, exceptionOf}
+use Rattle.model.specs.Wire.{frameRefusal, frameAnswered, frameActed, frameHandled, frameCall}
 use Rattle.model.specs.Counters.{itemsOf, listed, listRead, parameters, readOne, valuesRead, readCounters, deductible, deductOne, deduct}
 use Rattle.model.specs.Counters.{clearAll, deductCounters, modeSettable, setMode, setModes, setModesList, modeShown, setSampling, readSampling}
-use Rattle.model.specs.Counters.{resetInputs, reset, givePermission, setPort, readPort, resetModule}
+use Rattle.model.specs.Counters.{runsEnded, reset, givePermission, setPort, readPort, resetModule}
 use Rattle.model.specs.Temperature.{signedOf, patternOf, degrees, readingOf, readingShown, readTemperature, floatBits, readingWords}
 use Rattle.model.specs.Temperature.{thermostatFits, groupThermostat, groupFits, setGroup, setThermostats, groupShown, readThermostats, free}
 use Rattle.model.specs.Temperature.{freeAt, levelled, crossed, crossing, heated, failed, taken}
@@ -24,12 +25,12 @@ use Rattle.model.specs.Notice.{setNotice, readNotice, noticed, noticeFra
 use Rattle.model.specs.Registers.{readWords, packed, readBits, outputWord, thermostatWords, readThermostat, writePermission, portSettable}
 use Rattle.model.specs.Registers.{setPortField, writePort, isZero, clearOne, writeCounters, writeDeductions, writeModes, writePulse}
 use Rattle.model.specs.Registers.{wordsThermostat, writeThermostat, writeCoils}
-use Rattle.model.specs.Spinel.{spinelAsked, spinelRequest, spinelAnswered, spinelActed, spinelHandled}
+use Rattle.model.specs.Spinel.{spinelAsked, spinelRequest}
 use Rattle.model.specs.Modbus.{quantityWrong, countWrong, words, bitsFrom, registersRead, registersWritten, coilWritten, registerWritten}
-use Rattle.model.specs.Modbus.{coilsWritten, severalWritten, modbusAsked, modbusAnswered, modbusActed, modbusHandled}
-use Rattle.model.specs.Calls.{sampled, sampleCall, temperatureCall, spinelCall, modbusCall, step, run, replies}
-use Rattle.model.specs.Demand1.{requestChecks, spinelChecks, modbusChecks, checks, permissionEnded, isBroadcast, refusalReply, givesPermission}
-use Rattle.model.specs.Demand1.{resetsModule, portPermitted}
+use Rattle.model.specs.Modbus.{coilsWritten, severalWritten, modbusAsked}
+use Rattle.model.specs.Calls.{sampled, sampleCall, temperatureCall, step, run, replies}
+use Rattle.model.specs.Demand1.{requestChecks, frameChecks, checks, permissionEnded, isBroadcast, refusalReply, givesPermission, resetsModule}
+use Rattle.model.specs.Demand1.{portPermitted}
 use Rattle.model.specs.Tally.{selectedBy, sampledAccount, amounts, modeGiven, takenBy, takenFrom, spinelCollects, spinelClears, spinelResets}
 use Rattle.model.specs.Tally.{spinelMode, spinelSampling, writes, written, modbusCollects, modbusClears, modbusResets, modbusMode, changed}
 use Rattle.model.specs.Tally.{tallied, feed, tally, clears, stayed}
@@ -41,19 +42,18 @@ use Rattle.model.proofs.Exchanges.{samplesInTurn}
 unfoldable pub computing : Unit {0}
 unfolding within all any mapi allPass bytes bitsNumber chunksOf chunks entryOf entries numbered freshModule lineSampled linesSampled selects
     selectedEdge edges counted countersSampled inputsSampled total spinelReply crcBit crcBits crcByte crcOf withCrc shapeWrong sumWrong crcWrong
-    spinelAddressWrong modbusAddressWrong spinelBroadcastWrong modbusBroadcastWrong spinelFrameRefusal modbusFrameRefusal judged ackOf
-    exceptionOf itemsOf listed listRead parameters readOne valuesRead readCounters deductible deductOne deduct clearAll deductCounters
-    modeSettable setMode setModes setModesList modeShown setSampling readSampling resetInputs reset givePermission setPort readPort resetModule
-    signedOf patternOf degrees readingOf readingShown readTemperature floatBits readingWords thermostatFits groupThermostat groupFits setGroup
-    setThermostats groupShown readThermostats free freeAt levelled crossed crossing heated failed taken pulsed remaining setByte setOutput
-    startPulse actOn setOutputs pulseOutputs setPulses presetSettable setPreset setPresets startPreset presetReady startPresets pulseShown
-    presetShown modeByte readStates setNotice readNotice noticed noticeFrame noticeWritten readWords packed readBits outputWord thermostatWords
-    readThermostat writePermission portSettable setPortField writePort isZero clearOne writeCounters writeDeductions writeModes writePulse
-    wordsThermostat writeThermostat writeCoils spinelAsked spinelRequest spinelAnswered spinelActed spinelHandled quantityWrong countWrong words
-    bitsFrom registersRead registersWritten coilWritten registerWritten coilsWritten severalWritten modbusAsked modbusAnswered modbusActed
-    modbusHandled sampled sampleCall temperatureCall spinelCall modbusCall step run replies requestChecks spinelChecks modbusChecks checks
-    permissionEnded isBroadcast refusalReply givesPermission resetsModule portPermitted selectedBy sampledAccount amounts modeGiven takenBy
-    takenFrom spinelCollects spinelClears spinelResets spinelMode spinelSampling writes written modbusCollects modbusClears modbusResets
-    modbusMode changed tallied feed tally clears stayed events spinelLeaves registersLeave modbusLeaves leaves flatMap div ofInt ofBits toBits
-    isNan samplesInTurn
+    spinelAddressWrong modbusAddressWrong spinelBroadcastWrong modbusBroadcastWrong checkingOrder firstHolding refusalOf judged ackOf
+    exceptionOf frameRefusal frameAnswered frameActed frameHandled frameCall itemsOf listed listRead parameters readOne valuesRead readCounters
+    deductible deductOne deduct clearAll deductCounters modeSettable setMode setModes setModesList modeShown setSampling readSampling runsEnded
+    reset givePermission setPort readPort resetModule signedOf patternOf degrees readingOf readingShown readTemperature floatBits readingWords
+    thermostatFits groupThermostat groupFits setGroup setThermostats groupShown readThermostats free freeAt levelled crossed crossing heated
+    failed taken pulsed remaining setByte setOutput startPulse actOn setOutputs pulseOutputs setPulses presetSettable setPreset setPresets
+    startPreset presetReady startPresets pulseShown presetShown modeByte readStates setNotice readNotice noticed noticeFrame noticeWritten
+    readWords packed readBits outputWord thermostatWords readThermostat writePermission portSettable setPortField writePort isZero clearOne
+    writeCounters writeDeductions writeModes writePulse wordsThermostat writeThermostat writeCoils spinelAsked spinelRequest quantityWrong
+    countWrong words bitsFrom registersRead registersWritten coilWritten registerWritten coilsWritten severalWritten modbusAsked sampled
+    sampleCall temperatureCall step run replies requestChecks frameChecks checks permissionEnded isBroadcast refusalReply givesPermission
+    resetsModule portPermitted selectedBy sampledAccount amounts modeGiven takenBy takenFrom spinelCollects spinelClears spinelResets spinelMode
+    spinelSampling writes written modbusCollects modbusClears modbusResets modbusMode changed tallied feed tally clears stayed events
+    spinelLeaves registersLeave modbusLeaves leaves flatMap div ofInt ofBits toBits isNan samplesInTurn
 computing = tt

@@ -12,10 +12,12 @@ use Rattle.lists.specs.Numbers.{bytes}
 use Rattle.lists.proofs.Choices.{and-right, passed}
 use Rattle.model.specs.declared.Module.{Module}
 use Rattle.model.specs.State.{freshModule}
-use Rattle.model.specs.Frames.{spinelTo, signatureOf, instructionOf, spinelData, spinelBroadcast, spinelReply, sumOf, functionOf}
-use Rattle.model.specs.Refusals.{Out, ackOf, silent, ifPasses, frameLengthWrong, shapeWrong, sumWrong, spinelAddressWrong, spinelBroadcastWrong, spinelFrameRefusal, modbusFrameRefusal, bufferShort}
-use Rattle.model.specs.Spinel.{spinelAsked, spinelRequest, spinelUsed, spinelAnswered, spinelActed, spinelHandled}
-use Rattle.model.specs.Modbus.{modbusAsked, modbusUsed, modbusAnswered, modbusActed, modbusHandled}
+use Rattle.model.specs.Samples.{inputsSampled}
+use Rattle.model.specs.Frames.{spinelTo, signatureOf, instructionOf, spinelData, spinelBroadcast, spinelReply, sumOf}
+use Rattle.model.specs.Refusals.{Done, Out, ackOf, silent, frameLengthWrong, spinelBroadcastWrong, bufferShort}
+use Rattle.model.specs.Wire.{Wire, frameRefusal, usedUp, requestOf, frameAnswered, frameCall}
+use Rattle.model.specs.Spinel.{spinelRequest, spinelWire}
+use Rattle.model.specs.Modbus.{modbusWire}
 use Rattle.model.specs.Temperature.{readingOf, taken}
 use Rattle.model.specs.declared.Reading.{Reading}
 use Rattle.model.specs.declared.Reading.the-variants.{Valid, Fault}
@@ -23,40 +25,47 @@ use Rattle.model.specs.Call.{Act, Call, sample, temperature, spinel, mod
 use Rattle.model.specs.Calls.{sampled, sampleCall, temperatureCall, spinelCall, modbusCall, acted, step, run}
 use Rattle.model.specs.Tally.{Tally, Event, tallied, spinelTallied, modbusTallied, ifAccepted, feed, tally, freshTally, uncollected, clears, stayed}
 use Rattle.model.specs.Cycles.{events, finalTally, Conserved, CyclesConserved}
-use Rattle.model.proofs.Invariant.{Inv, fresh, sample-keeps}
-use Rattle.model.proofs.Accepted.{judged-good}
+use Rattle.model.proofs.Judged.{frame-either}
+use Rattle.model.proofs.Invariant.{countingOf, Inv, fresh, sample-keeps}
+use Rattle.model.proofs.Accepted.{Good, if-refused}
 use Rattle.model.proofs.SpinelKeeps.{spinel-good}
 use Rattle.model.proofs.ModbusKeeps.{modbus-good}
 
 -- the answer o to a call keeps the invariant
 record Kept (i : ℕ) (t : Tally) (a : Act) (o : Out) : Type 0 where
-  keeps : Inv i (o .after .inputs) (ifAccepted (o .refusal) t (tallied a (o .reply) t))
+  keeps : Inv i (countingOf (o .after)) (ifAccepted (o .refusal) t (tallied a (o .reply) t))
 
 -- a frame that passes 2 to 6 is no forbidden broadcast
-no-broadcast : (own : ℕ) (f : List ℕ) → spinelFrameRefusal own f ≡ 0 → spinelBroadcastWrong (spinelTo f) (instructionOf f) ≡ false
-unfolding spinelFrameRefusal
-no-broadcast own f h =
-    let a = passed (frameLengthWrong 9 f) 1 _ h in
-    let b = passed (shapeWrong f) 2 _ (a .1) in
-    let c = passed (sumWrong f) 3 _ (b .1) in
-    let d = passed (spinelAddressWrong own (spinelTo f)) 4 _ (c .1) in
-    passed (spinelBroadcastWrong (spinelTo f) (instructionOf f)) 5 0 (d .1) .0
+no-broadcast : (w : Wire) (own : ℕ) (f : List ℕ) → frameRefusal w own f ≡ 0 → w .broadcastWrong f ≡ false
+unfolding frameRefusal
+no-broadcast w own f h =
+    let a = passed (frameLengthWrong (w .least) f) 1 _ h in
+    let b = passed (w .shapeWrong f) 2 _ (a .1) in
+    let c = passed (w .checkWrong f) 3 _ (b .1) in
+    let d = passed (w .addressWrong own (w .addressee f)) 4 _ (c .1) in
+    passed (w .broadcastWrong f) 5 0 (d .1) .0
 
 -- so a 60H that passes came to one address
 to-one : (to i : ℕ) → spinelBroadcastWrong to i ≡ false → i ≡ 0x60 → eqb to spinelBroadcast ≡ false
 unfolding spinelBroadcastWrong
 to-one to i h e = sym (and-true (eqb to spinelBroadcast)) ∙ (rw e at h)
 
-module _ (i : ℕ) (small : i < 16) (m : Module) (t : Tally) (v : Inv i (m .inputs) t) where
+module _ (i : ℕ) (small : i < 16) (m : Module) (t : Tally) (v : Inv i (countingOf m) t) where
   -- a test that refuses without a reply
   tested : (a : Act) (b : Bool) (n : ℕ) (o : Out) → Kept i t a o → Kept i t a (cond b (silent (suc n) m) o)
   tested a true n o k = record { keeps = v }
   tested a false n o k = k
 
-  -- a frame that passes 2 to 6, or is refused without a reply
-  passes : (a : Act) (n : ℕ) (o : Out) → (n ≡ 0 → Kept i t a o) → Kept i t a (ifPasses n m o)
-  passes a zero o k = k refl
-  passes a (suc n) o k = record { keeps = v }
+  -- a frame on either wire, where its request keeps the invariant; `after` is the tally by the refusal and the reply's data
+  frame-keeps : (w : Wire) (f : List ℕ) (a : Act) (after : ℕ → List ℕ → Tally)
+      → ((o : Done Module) → tallied a (frameAnswered w (w .port m .address) f o .reply) t ≡ after (o .refusal) (o .reply))
+      → Inv i (countingOf (usedUp w m)) t
+      → (frameRefusal w (w .port m .address) f ≡ 0 → Good i (after 0) (requestOf w f m))
+      → (room : ℕ) → Kept i t a (frameCall w room f m)
+  unfolding frameAnswered
+  frame-keeps w f a after e u good =
+      frame-either (Kept i t a) w f m (λ _. record { keeps = v }) (λ n l. record { keeps = rw (if-refused n t _ l) u })
+      (λ h p. record { keeps = rw e (good h .keeps p) })
 
   module _ (f : List ℕ) where
     -- the reply's bytes by the refusal and the data
@@ -72,22 +81,16 @@ module _ (i : ℕ) (small : i < 16) (m : Module) (t : Tally) (v : Inv i (m .inpu
     unfolding spinelReply bytes
     tail-of e bs = rw e
 
-    spinel-keeps : Kept i t (spinel f) (spinelHandled f m)
-    unfolding spinelHandled spinelActed spinelAnswered spinelRequest tallied
+    spinel-keeps : (room : ℕ) → Kept i t (spinel f) (spinelCall room f m)
+    unfolding spinelRequest tallied frameAnswered
     spinel-keeps =
-        passes (spinel f) (spinelFrameRefusal (m .spinel .address) f) (spinelActed f m) λ h.
-        let good = spinel-good i small (spinelUsed m) t v (spinelData f) (replied 0) (spinelRequest f m) (instructionOf f) closing refl refl (λ e. tail-of (to-one (spinelTo f) (instructionOf f) (no-broadcast (m .spinel .address) f h) e)) in
-        record {
-          keeps = judged-good i t (λ n d. spinelTallied (instructionOf f) (spinelData f) (replied n d) t) (spinelUsed m) (spinelAsked (spinelRequest f m) (spinelUsed m)) v good .keeps;
-        }
+        frame-keeps spinelWire f (spinel f) (λ n d. spinelTallied (instructionOf f) (spinelData f) (replied n d) t) (λ _. refl) v λ h.
+        spinel-good i small (usedUp spinelWire m) t v (spinelData f) (replied 0) (spinelRequest (m .spinel .permitted) f) (instructionOf f) closing refl refl
+        (λ e. tail-of (to-one (spinelTo f) (instructionOf f) (no-broadcast spinelWire (m .spinel .address) f h) e))
 
-    modbus-keeps : Kept i t (modbus f) (modbusHandled f m)
-    unfolding modbusHandled modbusActed modbusAnswered tallied
-    modbus-keeps =
-        passes (modbus f) (modbusFrameRefusal (m .modbus .address) f) (modbusActed f m) λ h.
-        record {
-          keeps = judged-good i t (λ n d. modbusTallied f t) (modbusUsed m) (modbusAsked (m .modbus .permitted) (functionOf f) _ (modbusUsed m)) v (modbus-good i small (modbusUsed m) t v f (m .modbus .permitted)) .keeps;
-        }
+    modbus-keeps : (room : ℕ) → Kept i t (modbus f) (modbusCall room f m)
+    unfolding tallied
+    modbus-keeps = frame-keeps modbusWire f (modbus f) (λ n d. modbusTallied f t) (λ _. refl) v λ _. modbus-good i small (usedUp modbusWire m) t v f (m .modbus .permitted)
 
   temperature-keeps : (good : Bool) (tenths : ℤ) (room : ℕ) → Kept i t (temperature good tenths) (temperatureCall room good tenths m)
   unfolding temperatureCall taken tallied
@@ -98,13 +101,13 @@ module _ (i : ℕ) (small : i < 16) (m : Module) (t : Tally) (v : Inv i (m .inpu
       go Fault = record { keeps = v }
 
   call-keeps : (room : ℕ) (a : Act) → Kept i t a (acted room a m)
-  unfolding sampleCall sampled spinelCall modbusCall tallied
-  call-keeps room (sample bits) = tested (sample bits) (bufferShort room) 0 (sampled bits m) (record { keeps = sample-keeps i small (m .inputs) (t .sampling) (t .input (suc i)) bits v })
+  unfolding sampleCall sampled inputsSampled tallied
+  call-keeps room (sample bits) = tested (sample bits) (bufferShort room) 0 (sampled bits m) (record { keeps = sample-keeps i small (countingOf m) (t .sampling) (t .input (suc i)) bits v })
   call-keeps room (temperature good tenths) = temperature-keeps good tenths room
-  call-keeps room (spinel f) = tested (spinel f) (bufferShort room) 0 (spinelHandled f m) (spinel-keeps f)
-  call-keeps room (modbus f) = tested (modbus f) (bufferShort room) 0 (modbusHandled f m) (modbus-keeps f)
+  call-keeps room (spinel f) = spinel-keeps f room
+  call-keeps room (modbus f) = modbus-keeps f room
 
-calls-keep : (i : ℕ) → i < 16 → (cs : List Call) (m : Module) (t : Tally) → Inv i (m .inputs) t → Inv i (run m cs .inputs) (tally t (events m cs))
+calls-keep : (i : ℕ) → i < 16 → (cs : List Call) (m : Module) (t : Tally) → Inv i (countingOf m) t → Inv i (countingOf (run m cs)) (tally t (events m cs))
 unfolding run step tally events feed
 calls-keep i h [] m t v = v
 calls-keep i h (c ∷ cs) m t v = calls-keep i h cs (step m c .after) _ (call-keeps i h m t v (c .room) (c .act) .keeps)

@@ -14,14 +14,13 @@ use Rattle.lists.specs.Walk.{allPass}
 use Rattle.lists.specs.Numbers.{bytes}
 use Rattle.lists.specs.Entries.{Entry}
 use Rattle.lists.proofs.Choices.{and-left, and-right, within-low, all-first, all-rest}
-use Rattle.model.specs.declared.Inputs.{Inputs}
 use Rattle.model.specs.declared.Line.{Line}
-use Rattle.model.specs.State.{line, freshLine, withCounters, withModes, withSampling}
-use Rattle.model.specs.Counters.{isNumber, zeroes, numberIn, readOne, valuesRead, deductible, deductOne, clearedCounters, modeSettable, setMode, resetInputs}
+use Rattle.model.specs.State.{line, freshLine}
+use Rattle.model.specs.Counters.{isNumber, zeroes, numberIn, readOne, valuesRead, deductible, deductOne, clearedCounters, modeSettable, setMode, runsEnded}
 use Rattle.model.specs.Registers.{clearOne}
 use Rattle.model.specs.Tally.{Account, withRun, withMode, collect, clear, twoAt, valueAt, takenBy, takenFrom}
 use Rattle.model.proofs.OneInput.{collectedBy, modeAfter, named}
-use Rattle.model.proofs.Invariant.{At}
+use Rattle.model.proofs.Invariant.{Counting, At}
 
 -- a number of an input is at least 1
 positive : (n : ℕ) → isNumber n ≡ true → 1 ≤ n
@@ -190,13 +189,24 @@ zeros-agree i (e ∷ es) cs h k =
 
 -- the changes -----------------------------------------------------------------
 
-module _ (i : ℕ) (small : i < 16) (x : Inputs) (n : ℕ) (u : Account) (v : At i x n u) where
+-- one part of the counting put in place
+
+abbrev pub counted : Counting → List ℕ → Counting
+counted x cs = record { lines = x .lines; modes = x .modes; counters = cs; sampling = x .sampling }
+
+abbrev pub moded : Counting → List ℕ → Counting
+moded x ms = record { lines = x .lines; modes = ms; counters = x .counters; sampling = x .sampling }
+
+abbrev pub numberedBy : Counting → ℕ → Counting
+numberedBy x k = record { lines = x .lines; modes = x .modes; counters = x .counters; sampling = k }
+
+module _ (i : ℕ) (small : i < 16) (x : Counting) (n : ℕ) (u : Account) (v : At i x n u) where
   below : i < length (x .counters)
   below = omega (arith, v .counters)
 
   -- other counters, the account's edges and collected as given
   counts : (cs : List ℕ) (edges collected times : ℕ) → length cs ≡ length (x .counters) → edges ≡ collected + getD cs i 0 + 65536 * times
-      → At i (withCounters x cs) n (record { stable = u .stable; run = u .run; mode = u .mode; edges = edges; collected = collected })
+      → At i (counted x cs) n (record { stable = u .stable; run = u .run; mode = u .mode; edges = edges; collected = collected })
   counts cs e c k l s = record {
     sampling = v .sampling;
     stable = v .stable;
@@ -210,29 +220,29 @@ module _ (i : ℕ) (small : i < 16) (x : Inputs) (n : ℕ) (u : Account) (v : At
   }
 
   pub reads : (ps r tail : List ℕ) → all readable ps ≡ true → drop 8 r ≡ valuesRead ps (x .counters) ++ tail
-      → At i (withCounters x (foldl readOne (x .counters) ps)) n (collect (takenFrom (suc i) ps 0 r) u)
+      → At i (counted x (foldl readOne (x .counters) ps)) n (collect (takenFrom (suc i) ps 0 r) u)
   reads ps r tail ok e =
       let s = read-splits i ps (x .counters) r tail 0 below ok e in
       counts _ _ _ (v .times + s .times) (length-fold readOne length-readOne ps (x .counters)) (omega (arith, v .sum, s .sum))
 
   pub deducts : (es : List Entry) → allPass deductible deductOne (x .counters) es ≡ true
-      → At i (withCounters x (foldl deductOne (x .counters) es)) n (collect (collectedBy i es) u)
+      → At i (counted x (foldl deductOne (x .counters) es)) n (collect (collectedBy i es) u)
   deducts es ok =
       counts _ _ _ (v .times) (length-fold deductOne length-deductOne es (x .counters))
       (omega (arith, v .sum, deduct-splits i es (x .counters) below ok))
 
-  pub clears-all : At i (withCounters x clearedCounters) n (clear u)
+  pub clears-all : At i (counted x clearedCounters) n (clear u)
   clears-all = counts clearedCounters 0 0 0 (sym (v .counters)) (omega (arith, zeros i small))
 
-  pub zeroes-some : (es : List Entry) → Numbered es → At i (withCounters x (foldl clearOne (x .counters) es)) n (cond (named i es) (clear u) u)
+  pub zeroes-some : (es : List Entry) → Numbered es → At i (counted x (foldl clearOne (x .counters) es)) n (cond (named i es) (clear u) u)
   zeroes-some es ok = go (named i es) (zeros-agree i es (x .counters) below ok)
     where
       go : (b : Bool) → getD (foldl clearOne (x .counters) es) i 0 ≡ cond b 0 (getD (x .counters) i 0)
-          → At i (withCounters x (foldl clearOne (x .counters) es)) n (cond b (clear u) u)
+          → At i (counted x (foldl clearOne (x .counters) es)) n (cond b (clear u) u)
       go true e = counts _ 0 0 0 (length-fold clearOne length-clearOne es (x .counters)) (omega arith)
       go false e = counts _ _ _ (v .times) (length-fold clearOne length-clearOne es (x .counters)) (omega (arith, v .sum))
 
-  pub modes : (es : List Entry) → all modeSettable es ≡ true → At i (withModes x (foldl setMode (x .modes) es)) n (withMode (modeAfter i es (u .mode)) u)
+  pub modes : (es : List Entry) → all modeSettable es ≡ true → At i (moded x (foldl setMode (x .modes) es)) n (withMode (modeAfter i es (u .mode)) u)
   modes es ok = record {
     sampling = v .sampling;
     stable = v .stable;
@@ -245,7 +255,7 @@ module _ (i : ℕ) (small : i < 16) (x : Inputs) (n : ℕ) (u : Account) (v : At
     sum = v .sum;
   }
 
-  pub samplings : (k : ℕ) → At i (withSampling x k) k u
+  pub samplings : (k : ℕ) → At i (numberedBy x k) k u
   samplings k = record {
     sampling = refl;
     stable = v .stable;
@@ -258,8 +268,8 @@ module _ (i : ℕ) (small : i < 16) (x : Inputs) (n : ℕ) (u : Account) (v : At
     sum = v .sum;
   }
 
-  pub resets : At i (resetInputs x) n (withRun 0 (clear u))
-  unfolding resetInputs
+  pub resets : At i (record { lines = runsEnded (x .lines); modes = x .modes; counters = clearedCounters; sampling = x .sampling }) n (withRun 0 (clear u))
+  unfolding runsEnded
   resets =
       let at : getD (map (λ (y : Line). line (y .stable) 0) (x .lines)) i freshLine ≡ line (getD (x .lines) i freshLine .stable) 0 = List·getD-map (λ (y : Line). line (y .stable) 0) (x .lines) i freshLine in
       record {

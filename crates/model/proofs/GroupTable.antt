@@ -16,18 +16,26 @@ abbrev number : {P : Type 0} → Request P → ℕ
 number q = judged (q .after) q .refusal
 
 pub record GroupTable : Type 0 where
+  -- no register at all: in the group, and behind its last
+  pub noneRead : map (λ r. number (readWords counterGroup (replicate 16 0) r 0)) (100 ∷ 116 ∷ []) ≡ (9 ∷ 9 ∷ [])
+  pub noBitRead : map (λ r. number (readBits (replicate 16 true) r 0)) (0 ∷ 16 ∷ []) ≡ (9 ∷ 9 ∷ [])
+  pub noneOfPort : map (λ r. number (writePort true r [] freshModule)) (1 ∷ 2 ∷ 3 ∷ []) ≡ (9 ∷ 9 ∷ 9 ∷ [])
+  pub noneCleared : map (λ r. number (writeCounters r [] (replicate 16 0))) (100 ∷ 116 ∷ []) ≡ (9 ∷ 9 ∷ [])
+  pub noneDeducted : map (λ r. number (writeDeductions r [] (replicate 16 0))) (200 ∷ 216 ∷ []) ≡ (9 ∷ 9 ∷ [])
+  pub noModes : map (λ r. number (writeModes r [] (replicate 16 0))) (300 ∷ 316 ∷ []) ≡ (9 ∷ 9 ∷ [])
+  pub noCoils : map (λ r. number (writeCoils Fault [] r [] [])) (0 ∷ 16 ∷ []) ≡ (9 ∷ 9 ∷ [])
   -- one register read: before the group, its first, its last, behind it
-  pub portRead : map (λ r. number (readWords portGroup (6 ∷ 6 ∷ []) r 1 freshModule)) (0 ∷ 1 ∷ 2 ∷ 3 ∷ []) ≡ (9 ∷ 0 ∷ 0 ∷ 9 ∷ [])
-  pub countersRead : map (λ r. number (readWords counterGroup (replicate 16 0) r 1 freshModule)) (99 ∷ 100 ∷ 115 ∷ 116 ∷ []) ≡ (9 ∷ 0 ∷ 0 ∷ 9 ∷ [])
-  pub modesRead : map (λ r. number (readWords modeGroup (replicate 16 0) r 1 freshModule)) (299 ∷ 300 ∷ 315 ∷ 316 ∷ []) ≡ (9 ∷ 0 ∷ 0 ∷ 9 ∷ [])
-  pub outputsRead : map (λ r. number (readWords outputGroup (replicate 16 0) r 1 freshModule)) (499 ∷ 500 ∷ 515 ∷ 516 ∷ []) ≡ (9 ∷ 0 ∷ 0 ∷ 9 ∷ [])
-  pub readingRead : map (λ r. number (readWords readingGroup (replicate 4 0) r 1 freshModule)) (0 ∷ 3 ∷ 4 ∷ []) ≡ (0 ∷ 0 ∷ 9 ∷ [])
-  pub bitsRead : map (λ r. number (readBits (replicate 16 true) r 1 freshModule)) (0 ∷ 15 ∷ 16 ∷ []) ≡ (0 ∷ 0 ∷ 9 ∷ [])
+  pub portRead : map (λ r. number (readWords portGroup (6 ∷ 6 ∷ []) r 1)) (0 ∷ 1 ∷ 2 ∷ 3 ∷ []) ≡ (9 ∷ 0 ∷ 0 ∷ 9 ∷ [])
+  pub countersRead : map (λ r. number (readWords counterGroup (replicate 16 0) r 1)) (99 ∷ 100 ∷ 115 ∷ 116 ∷ []) ≡ (9 ∷ 0 ∷ 0 ∷ 9 ∷ [])
+  pub modesRead : map (λ r. number (readWords modeGroup (replicate 16 0) r 1)) (299 ∷ 300 ∷ 315 ∷ 316 ∷ []) ≡ (9 ∷ 0 ∷ 0 ∷ 9 ∷ [])
+  pub outputsRead : map (λ r. number (readWords outputGroup (replicate 16 0) r 1)) (499 ∷ 500 ∷ 515 ∷ 516 ∷ []) ≡ (9 ∷ 0 ∷ 0 ∷ 9 ∷ [])
+  pub readingRead : map (λ r. number (readWords readingGroup (replicate 4 0) r 1)) (0 ∷ 3 ∷ 4 ∷ []) ≡ (0 ∷ 0 ∷ 9 ∷ [])
+  pub bitsRead : map (λ r. number (readBits (replicate 16 true) r 1)) (0 ∷ 15 ∷ 16 ∷ []) ≡ (0 ∷ 0 ∷ 9 ∷ [])
   -- two registers: across the first, at the last two, across the last
-  pub twoRead : map (λ r. number (readWords counterGroup (replicate 16 0) r 2 freshModule)) (99 ∷ 114 ∷ 115 ∷ []) ≡ (9 ∷ 0 ∷ 9 ∷ [])
+  pub twoRead : map (λ r. number (readWords counterGroup (replicate 16 0) r 2)) (99 ∷ 114 ∷ 115 ∷ []) ≡ (9 ∷ 0 ∷ 9 ∷ [])
   pub twoCleared : map (λ r. number (writeCounters r (0 ∷ 0 ∷ []) (replicate 16 0))) (99 ∷ 114 ∷ 115 ∷ []) ≡ (9 ∷ 0 ∷ 9 ∷ [])
   -- four for a thermostat
-  pub thermostatRead : map (λ r. number (readThermostat [] r 4 freshModule)) (596 ∷ 599 ∷ 600 ∷ 660 ∷ 664 ∷ []) ≡ (9 ∷ 9 ∷ 0 ∷ 0 ∷ 9 ∷ [])
+  pub thermostatRead : map (λ r. number (readThermostat [] r 4)) (596 ∷ 599 ∷ 600 ∷ 660 ∷ 664 ∷ []) ≡ (9 ∷ 9 ∷ 0 ∷ 0 ∷ 9 ∷ [])
   pub thermostatWritten : map (λ r. number (writeThermostat r (0 ∷ 0 ∷ 0 ∷ 0 ∷ []) [])) (596 ∷ 599 ∷ 600 ∷ 660 ∷ 664 ∷ []) ≡ (9 ∷ 9 ∷ 0 ∷ 0 ∷ 9 ∷ [])
   -- one register written
   pub permissionWritten : map (λ r. number (writePermission true r (255 ∷ []) (port 1 3 false))) (0 ∷ 1 ∷ []) ≡ (0 ∷ 9 ∷ [])
@@ -41,6 +49,13 @@ pub record GroupTable : Type 0 where
 pub groupTable : GroupTable
 unfolding computing
 groupTable = record {
+  noneRead = refl;
+  noBitRead = refl;
+  noneOfPort = refl;
+  noneCleared = refl;
+  noneDeducted = refl;
+  noModes = refl;
+  noCoils = refl;
   portRead = refl;
   countersRead = refl;
   modesRead = refl;

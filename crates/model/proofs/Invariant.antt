@@ -6,15 +6,26 @@ use mathlib.Core.Bool.{Bool, true, false, cond}
 use lib.ListN.{length, getD, replicate, getD-replicate}
 use Rattle.lists.specs.Numbers.{bitAt}
 use Rattle.lists.proofs.Done.{getD-mapi, length-mapi}
-use Rattle.model.specs.declared.Inputs.{Inputs}
+use mathlib.Core.List.{List}
+use Rattle.model.specs.declared.Module.{Module}
 use Rattle.model.specs.declared.Line.{Line}
 use Rattle.model.specs.State.{freshLine, freshModule}
-use Rattle.model.specs.Samples.{lineSampled, linesSampled, selectedEdge, counted, countersSampled, inputsSampled}
+use Rattle.model.specs.Samples.{lineSampled, linesSampled, selectedEdge, counted, countersSampled}
 use Rattle.model.specs.Tally.{Tally, Account, sampledAccount, sampledBit, freshTally}
 use Rattle.model.proofs.Bridge.{account, sampled-agrees}
 
+-- what counting needs of a state
+pub record Counting : Type 0 where
+  pub lines : List Line
+  pub modes : List ℕ
+  pub counters : List ℕ
+  pub sampling : ℕ
+
+abbrev pub countingOf : Module → Counting
+countingOf m = record { lines = m .inputs .lines; modes = m .settings .modes; counters = m .inputs .counters; sampling = m .settings .sampling }
+
 -- n and u are the tally's sampling number and its account of the input in place i, whose number is i + 1
-pub record At (i : ℕ) (x : Inputs) (n : ℕ) (u : Account) : Type 0 where
+pub record At (i : ℕ) (x : Counting) (n : ℕ) (u : Account) : Type 0 where
   pub sampling : x .sampling ≡ n
   pub stable : cond (getD (x .lines) i freshLine .stable) 1 0 ≡ u .stable
   pub run : getD (x .lines) i freshLine .run ≡ u .run
@@ -25,10 +36,10 @@ pub record At (i : ℕ) (x : Inputs) (n : ℕ) (u : Account) : Type 0 where
   pub times : ℕ
   pub sum : u .edges ≡ u .collected + getD (x .counters) i 0 + 65536 * times
 
-abbrev pub Inv : ℕ → Inputs → Tally → Type 0
+abbrev pub Inv : ℕ → Counting → Tally → Type 0
 Inv i x t = At i x (t .sampling) (t .input (suc i))
 
-pub fresh : (i : ℕ) → i < 16 → Inv i (freshModule .inputs) freshTally
+pub fresh : (i : ℕ) → i < 16 → Inv i (countingOf freshModule) freshTally
 unfolding freshModule
 fresh i h =
     let zeros : _≡_ {A = ℕ} (getD (replicate 16 0) i 0) 0 = getD-replicate {A = ℕ} 16 i 0 0 h in
@@ -45,7 +56,7 @@ wraps false c = omega arith
 as-line : (u : Account) (s : Bool) (r : ℕ) → cond s 1 0 ≡ u .stable → r ≡ u .run → u ≡ account s r (u .mode) (u .edges) (u .collected)
 as-line u s r e q = rw (e, q)
 
-module _ (i : ℕ) (small : i < 16) (x : Inputs) (n : ℕ) (u : Account) (bits : ℕ) (v : At i x n u) where
+module _ (i : ℕ) (small : i < 16) (x : Counting) (n : ℕ) (u : Account) (bits : ℕ) (v : At i x n u) where
   abbrev was : Line
   was = getD (x .lines) i freshLine
 
@@ -69,8 +80,14 @@ module _ (i : ℕ) (small : i < 16) (x : Inputs) (n : ℕ) (u : Account) (bits :
       (ap (sampledAccount n (bits / 2 ^ i % 2)) (as-line u (was .stable) (was .run) (v .stable) (v .run))
       ∙ sampled-agrees n (was .run) (u .mode) (u .edges) (u .collected) (bits / 2 ^ i % 2) (was .stable) (omega arith))
 
-  pub sample-keeps : At i (inputsSampled bits x) n (sampledAccount n (sampledBit bits (suc i)) u)
-  unfolding inputsSampled linesSampled countersSampled
+  -- the counting after a sample
+  abbrev pub countingSampled : Counting
+  countingSampled =
+      let now = linesSampled (x .sampling) bits (x .lines) in
+      record { lines = now; modes = x .modes; counters = countersSampled (x .modes) (x .lines) now (x .counters); sampling = x .sampling }
+
+  pub sample-keeps : At i countingSampled n (sampledAccount n (sampledBit bits (suc i)) u)
+  unfolding linesSampled countersSampled
   sample-keeps =
       rw account-after
       (record {

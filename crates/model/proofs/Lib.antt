@@ -19,7 +19,6 @@ pub mod Wraps
 pub mod Readings
 pub mod SampleLaws
 pub mod Judged
-pub mod Answers
 pub mod Short
 pub mod Refused
 pub mod OneInput

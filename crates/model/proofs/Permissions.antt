@@ -1,28 +1,33 @@
 -- An accepted request leaves its port permitted exactly where it gives the permission, and a reset ends both. Assumes nothing.
-use Prim.Native.Nat.{ℕ, zero, suc}
+use Prim.Native.Nat.{ℕ, zero, suc, _≤_}
 use native.Mathlib.Omega.{arith}
-use mathlib.Core.Path.{_≡_, refl, sym, _∙_}
+use mathlib.Core.Path.{_≡_, refl, sym}
 use mathlib.Core.Bool.{Bool, true, false, _&&_, _||_, and-false, true≢false}
-use mathlib.Core.List.{List, [], _∷_}
+use mathlib.Core.List.{List}
 use lib.ListN.{length}
 use lib.Dec.{eqb}
 use borrow.Author.Tests.{ne-eqb, not-false}
 use Rattle.lists.specs.Tests.{within}
 use Rattle.lists.proofs.Choices.{cond-case, cond-eq, or-right, within-high}
 use Rattle.model.specs.declared.Module.{Module}
-use Rattle.model.specs.Frames.{instructionOf, functionOf, modbusBody}
-use Rattle.model.specs.Refusals.{Request, Done, Out, silent, bufferShort, spinelFrameRefusal, modbusFrameRefusal}
-use Rattle.model.specs.Counters.{listRead, readCounters, deductCounters, setModesList, setSampling, readSampling, reset, setPort, readPort, resetModule, givePermission}
+use Rattle.model.specs.Frames.{functionOf, modbusBody}
+use Rattle.model.specs.Refusals.{Request, Out}
+use Rattle.model.specs.Wire.{usedUp, frameAnswered}
+use Rattle.model.specs.Counters.{listRead, readSampling, reset, setPort, readPort, resetModule, givePermission}
 use Rattle.model.specs.Outputs.{readStates}
 use Rattle.model.specs.Notice.{readNotice}
 use Rattle.model.specs.Temperature.{readTemperature, readThermostats}
-use Rattle.model.specs.Registers.{permissionGroup, outside, readWords, readBits, readThermostat, writePermission, writePort}
-use Rattle.model.specs.Spinel.{SpinelRequest, spinelAsked, spinelRequest, spinelUsed, spinelAnswered, spinelActed, spinelHandled}
-use Rattle.model.specs.Modbus.{startOf, registersRead, registersWritten, coilWritten, registerWritten, coilsWritten, severalWritten, modbusAsked, modbusUsed, modbusAnswered, modbusActed, modbusHandled}
+use Rattle.model.specs.Registers.{permissionGroup, outside, readWords, readBits, writePermission, writePort}
+use Rattle.model.specs.Spinel.{SpinelRequest, spinelAsked, spinelRequest, spinelWire}
+use Rattle.model.specs.Modbus.{startOf, registersWritten, coilWritten, registerWritten, coilsWritten, severalWritten, modbusAsked, modbusWire}
 use Rattle.model.specs.Call.{Act, sample, temperature, spinel, modbus}
-use Rattle.model.specs.Calls.{sampled, sampleCall, temperatureCall, spinelCall, modbusCall, acted, step}
-use Rattle.model.specs.Demand1.{givesPermission, resetsModule, portPermitted, Permissions, PermissionsHold}
-use Rattle.model.proofs.Answers.{judged-either, passes-either}
+use Rattle.model.specs.Calls.{spinelCall, modbusCall, acted, step}
+use Rattle.model.specs.Demand1.{givesPermission, resetsModule, portPermitted, PermissionsHold}
+use Rattle.model.proofs.Judged.{order, frame-either}
+
+-- a refusal is no acceptance
+late : {A : Type 0} (n : ℕ) → 7 ≤ n → n ≡ 0 → A
+late n l e = absurd (omega arith)
 
 -- register 0, or another
 first : (r : ℕ) → within 0 0 r ≡ true → r ≡ 0
@@ -41,13 +46,13 @@ record Fair (own gives resets : Bool) (n : Module) : Type 0 where
 module _ (m : Module) where
   -- Spinel
   record FairBySpinel (i : ℕ) (q : Request Module) : Type 0 where
-    fair : q .unlisted ≡ false → Fair (q .after .spinel .permitted) (eqb i 0xE4) (eqb i 0xE0 || eqb i 0xE3) (q .after)
+    fair : q .holds 7 ≡ false → Fair (q .after .spinel .permitted) (eqb i 0xE4) (eqb i 0xE0 || eqb i 0xE3) (q .after)
 
   -- an instruction that neither gives the permission nor resets
   plainly : (i : ℕ) (q : Request Module) → q .after .spinel .permitted ≡ false → eqb i 0xE4 ≡ false → eqb i 0xE0 ≡ false → eqb i 0xE3 ≡ false → FairBySpinel i q
   plainly i q e a b c = record { fair = λ _. record { used = rw (e, a); ended = rw (b, c) (λ h. absurd (true≢false (sym h))) } }
 
-  spinel-fair : (q : SpinelRequest) (i : ℕ) → q .instruction ≡ i → FairBySpinel i (spinelAsked q (spinelUsed m))
+  spinel-fair : (q : SpinelRequest) (i : ℕ) → q .instruction ≡ i → FairBySpinel i (spinelAsked q (usedUp spinelWire m))
   unfolding spinelAsked readNotice readThermostats readStates listRead readTemperature readSampling readPort setPort resetModule reset givePermission
   spinel-fair q i e =
       rw e
@@ -79,18 +84,18 @@ module _ (m : Module) where
 
   -- registers written from r on, by 06 or not
   record FairWrite (single : Bool) (r : ℕ) (q : Request Module) : Type 0 where
-    fair : q .rangeWrong ≡ false → Fair (q .after .modbus .permitted) (single && eqb r 0) (within 1 2 r) (q .after)
+    fair : q .holds 9 ≡ false → Fair (q .after .modbus .permitted) (single && eqb r 0) (within 1 2 r) (q .after)
 
   -- a group whose write neither gives the permission nor resets
   harmless : (single : Bool) (r : ℕ) (q : Request Module) → q .after .modbus .permitted ≡ false → within 0 0 r ≡ false → within 1 2 r ≡ false → FairWrite single r q
   harmless single r q e a b = record { fair = λ _. record { used = rw (e, not-first r a) (sym (and-false single)); ended = rw b (λ h. absurd (true≢false (sym h))) } }
 
   -- the permission's register
-  given : (single : Bool) (r : ℕ) (q : Request Module) → r ≡ 0 → q .after .modbus .permitted ≡ true → (q .rangeWrong ≡ false → single ≡ true) → FairWrite single r q
+  given : (single : Bool) (r : ℕ) (q : Request Module) → r ≡ 0 → q .after .modbus .permitted ≡ true → (q .holds 9 ≡ false → single ≡ true) → FairWrite single r q
   unfolding within
   given single r q e g s = rw e (record { fair = λ h. record { used = rw (g, s h); ended = λ z. absurd (true≢false (sym z)) } })
 
-  registers-fair : (permitted single : Bool) (r : ℕ) (vs : List ℕ) → FairWrite single r (registersWritten permitted single r vs (modbusUsed m))
+  registers-fair : (permitted single : Bool) (r : ℕ) (vs : List ℕ) → FairWrite single r (registersWritten permitted single r vs (usedUp modbusWire m))
   unfolding registersWritten writePermission writePort reset
   registers-fair permitted single r vs =
       cond-case (FairWrite single r) (within 0 0 r) _ _ (λ e. given single r _ (first r e) refl (λ h. not-false single (or-right (outside permissionGroup r (length vs)) _ h))) λ a.
@@ -103,31 +108,18 @@ module _ (m : Module) where
 
   -- Modbus: the function fn at register r
   record FairByModbus (fn r : ℕ) (q : Request Module) : Type 0 where
-    fair : q .unlisted ≡ false → q .rangeWrong ≡ false → Fair (q .after .modbus .permitted) (eqb fn 0x06 && eqb r 0) ((eqb fn 0x06 || eqb fn 0x10) && within 1 2 r) (q .after)
+    fair : q .holds 7 ≡ false → q .holds 9 ≡ false → Fair (q .after .modbus .permitted) (eqb fn 0x06 && eqb r 0) ((eqb fn 0x06 || eqb fn 0x10) && within 1 2 r) (q .after)
 
   -- a function that writes no register
   apart : (fn r : ℕ) (q : Request Module) → q .after .modbus .permitted ≡ false → eqb fn 0x06 ≡ false → eqb fn 0x10 ≡ false → FairByModbus fn r q
   apart fn r q e a b = record { fair = λ _ _. record { used = rw (e, a); ended = rw (a, b) (λ h. absurd (true≢false (sym h))) } }
 
-  -- a read of registers leaves the permission used up
-  read-fair : (r n : ℕ) → registersRead r n (modbusUsed m) .after .modbus .permitted ≡ false
-  unfolding registersRead readWords readThermostat
-  read-fair r n =
-      cond-case P (within 1 2 r) _ _ (λ _. refl) λ _.
-      cond-case P (within 100 115 r) _ _ (λ _. refl) λ _.
-      cond-case P (within 300 315 r) _ _ (λ _. refl) λ _.
-      cond-case P (within 500 515 r) _ _ (λ _. refl) λ _.
-      cond-case P (within 600 663 r) _ _ (λ _. refl) λ _. refl
-    where
-      P : Request Module → Type 0
-      P q = q .after .modbus .permitted ≡ false
-
-  modbus-fair : (permitted : Bool) (fn : ℕ) (b : List ℕ) → FairByModbus fn (startOf b) (modbusAsked permitted fn b (modbusUsed m))
+  modbus-fair : (permitted : Bool) (fn : ℕ) (b : List ℕ) → FairByModbus fn (startOf b) (modbusAsked permitted fn b (usedUp modbusWire m))
   unfolding modbusAsked readBits readWords coilWritten registerWritten coilsWritten severalWritten
   modbus-fair permitted fn b =
       cond-eq F fn 0x01 _ _ (λ e. rw e (apart 0x01 r _ refl refl refl))
       (cond-eq F fn 0x02 _ _ (λ e. rw e (apart 0x02 r _ refl refl refl))
-      (cond-eq F fn 0x03 _ _ (λ e. rw e (apart 0x03 r _ (read-fair r _) refl refl))
+      (cond-eq F fn 0x03 _ _ (λ e. rw e (apart 0x03 r _ refl refl refl))
       (cond-eq F fn 0x04 _ _ (λ e. rw e (apart 0x04 r _ refl refl refl))
       (cond-eq F fn 0x05 _ _ (λ e. rw e (apart 0x05 r _ refl refl refl))
       (cond-eq F fn 0x06 _ _ (λ e. rw e (record { fair = λ _ h. registers-fair permitted true r _ .fair h }))
@@ -145,27 +137,24 @@ module _ (m : Module) where
   record FairAnswer (a : Act) (o : Out) : Type 0 where
     fair : o .refusal ≡ 0 → Fair (portPermitted a (o .after)) (givesPermission a) (resetsModule a) (o .after)
 
-  record FairDone (a : Act) (o : Done Module) : Type 0 where
-    fair : o .refusal ≡ 0 → Fair (portPermitted a (o .part)) (givesPermission a) (resetsModule a) (o .part)
-
-  spinel-answer : (f : List ℕ) → FairAnswer (spinel f) (spinelHandled f m)
-  unfolding spinelHandled spinelActed spinelAnswered spinelRequest portPermitted givesPermission resetsModule
+  spinel-answer : (f : List ℕ) (room : ℕ) → FairAnswer (spinel f) (spinelCall room f m)
+  unfolding order spinelRequest portPermitted givesPermission resetsModule frameAnswered
   spinel-answer f =
-      passes-either (FairAnswer (spinel f)) (spinelFrameRefusal (m .spinel .address) f) m (spinelActed f m) (λ _. record { fair = λ e. absurd (omega arith) })
-      (record { fair = judged-either (FairDone (spinel f)) (spinelUsed m) (spinelAsked (spinelRequest f m) (spinelUsed m)) (λ _. record { fair = λ e. absurd (omega arith) }) (λ p. record { fair = λ _. spinel-fair (spinelRequest f m) _ refl .fair (p .listed) }) .fair })
+      frame-either (FairAnswer (spinel f)) spinelWire f m (λ _. record { fair = λ e. absurd (omega arith) }) (λ n l. record { fair = λ e. late n l e })
+      (λ _ p. record { fair = λ _. spinel-fair (spinelRequest (m .spinel .permitted) f) _ refl .fair (p .at 7 refl) })
 
-  modbus-answer : (f : List ℕ) → FairAnswer (modbus f) (modbusHandled f m)
-  unfolding modbusHandled modbusActed modbusAnswered portPermitted givesPermission resetsModule
+  modbus-answer : (f : List ℕ) (room : ℕ) → FairAnswer (modbus f) (modbusCall room f m)
+  unfolding order portPermitted givesPermission resetsModule frameAnswered
   modbus-answer f =
-      passes-either (FairAnswer (modbus f)) (modbusFrameRefusal (m .modbus .address) f) m (modbusActed f m) (λ _. record { fair = λ e. absurd (omega arith) })
-      (record { fair = judged-either (FairDone (modbus f)) (modbusUsed m) (modbusAsked (m .modbus .permitted) (functionOf f) (modbusBody f) (modbusUsed m)) (λ _. record { fair = λ e. absurd (omega arith) }) (λ p. record { fair = λ _. modbus-fair (m .modbus .permitted) (functionOf f) (modbusBody f) .fair (p .listed) (p .range) }) .fair })
+      frame-either (FairAnswer (modbus f)) modbusWire f m (λ _. record { fair = λ e. absurd (omega arith) }) (λ n l. record { fair = λ e. late n l e })
+      (λ _ p. record { fair = λ _. modbus-fair (m .modbus .permitted) (functionOf f) (modbusBody f) .fair (p .at 7 refl) (p .at 9 refl) })
 
   call-answer : (room : ℕ) (a : Act) → FairAnswer a (acted room a m)
-  unfolding spinelCall modbusCall portPermitted givesPermission resetsModule
+  unfolding portPermitted givesPermission resetsModule
   call-answer room (sample bits) = record { fair = λ _. record { used = refl; ended = λ h. absurd (true≢false (sym h)) } }
   call-answer room (temperature good tenths) = record { fair = λ _. record { used = refl; ended = λ h. absurd (true≢false (sym h)) } }
-  call-answer room (spinel f) = cond-case (FairAnswer (spinel f)) (bufferShort room) (silent 1 m) (spinelHandled f m) (λ _. record { fair = λ e. absurd (omega arith) }) (λ _. spinel-answer f)
-  call-answer room (modbus f) = cond-case (FairAnswer (modbus f)) (bufferShort room) (silent 1 m) (modbusHandled f m) (λ _. record { fair = λ e. absurd (omega arith) }) (λ _. modbus-answer f)
+  call-answer room (spinel f) = spinel-answer f room
+  call-answer room (modbus f) = modbus-answer f room
 
 pub permissionsHold : PermissionsHold
 unfolding step

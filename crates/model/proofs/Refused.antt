@@ -2,22 +2,24 @@
 use Prim.Native.Nat.{ℕ, zero, suc, _≤_}
 use native.Mathlib.Omega.{arith}
 use native.Mathlib.Nat.{le-trans}
-use mathlib.Core.Path.{_≡_, refl, sym, _∙_}
+use mathlib.Core.Path.{_≡_, refl, sym, ap, _∙_}
 use mathlib.Core.Bool.{Bool, true, false, cond}
-use mathlib.Core.List.{List, [], _∷_, _++_}
+use mathlib.Core.List.{List, [], _∷_, _++_, map}
 use lib.Dec.{eqb}
 use borrow.Author.Tests.{ne-eqb}
 use lib.ListN.{length}
 use Rattle.lists.proofs.Choices.{cond-case}
 use Rattle.lists.proofs.DataLaws.{over-beyond, over-length}
 use Rattle.model.specs.declared.Module.{Module}
-use Rattle.model.specs.Modbus.{modbusAsked, modbusUsed, modbusAnswered, modbusActed, modbusHandled}
-use Rattle.model.specs.Spinel.{spinelRequest, spinelAsked, spinelUsed, spinelAnswered, spinelActed, spinelHandled}
-use Rattle.model.specs.Refusals.{Request, Done, refused, judged, Out, silent, bufferShort, ifPasses, spinelFrameRefusal, modbusFrameRefusal}
-use Rattle.model.specs.Frames.{spinelTo, signatureOf, spinelBroadcast, modbusTo, functionOf, modbusBody, modbusBroadcast}
+use Rattle.model.specs.Frames.{signatureOf, spinelReply, functionOf, exceptionReply}
+use Rattle.model.specs.Refusals.{Request, Done, refused, firstHolding, decided, judged, Out, silent, bufferShort, ifPasses, ackOf, exceptionOf}
+use Rattle.model.specs.Wire.{Wire, usedUp, requestOf, frameRefusal, frameAnswered, frameActed, frameHandled, frameCall}
+use Rattle.model.specs.Spinel.{spinelWire}
+use Rattle.model.specs.Modbus.{modbusWire}
 use Rattle.model.specs.Call.{Act, sample, temperature, spinel, modbus}
-use Rattle.model.specs.Calls.{sampled, sampleCall, temperatureCall, spinelCall, modbusCall, acted, step}
-use Rattle.model.specs.Demand1.{Check, check, requestChecks, spinelChecks, modbusChecks, checks, RefusedBy, here, later, NoneHolds, none, also, permissionEnded, isBroadcast, refusalReply, RefusalsHold}
+use Rattle.model.specs.Calls.{sampled, sampleCall, temperatureCall, acted, step}
+use Rattle.model.specs.Demand1.{Check, check, greatest, requestChecks, frameChecks, wireChecks, checks, RefusedBy, here, later, NoneHolds, none, also, permissionEnded, isBroadcast, refusalReply, RefusalsHold}
+use Rattle.model.proofs.Judged.{judged-either}
 use Rattle.model.proofs.Short.{spinel-short, spinel-fits, modbus-short, modbus-fits, notice-fits}
 
 -- The first condition that holds ---------------------------------------------------------
@@ -83,24 +85,22 @@ pub record Follows {P : Type 0} (p : P) (cs : List Check) (o : Done P) : Type 0 
   pub empty : 1 ≤ o .refusal → o .reply ≡ []
 
 module _ {P : Type 0} (p : P) where
-  -- one condition in front
-  request-check : (n : ℕ) (t : Bool) {cs : List Check} {o : Done P} → Follows p cs o → Follows p (check n t ∷ cs) (cond t (refused n p) o)
-  unfolding firstOf
-  request-check n true f = record { refusal = refl; kept = λ _. refl; empty = λ _. refl }
-  request-check n false f = record { refusal = f .refusal; kept = f .kept; empty = f .empty }
+  -- a number decides
+  decided-follows : (cs : List Check) (n : ℕ) (q : Request P) → n ≡ firstOf cs → Follows p cs (decided n p (q .after) (q .reply))
+  decided-follows cs zero q e = record { refusal = e; kept = λ l. absurd (omega arith); empty = λ l. absurd (omega arith) }
+  decided-follows cs (suc n) q e = record { refusal = e; kept = λ _. refl; empty = λ _. refl }
 
+  first-by : (ns : List ℕ) (q : Request P) → firstHolding ns (q .holds) ≡ firstOf (map (λ n. check n (q .holds n)) ns)
+  unfolding firstHolding firstOf
+  first-by [] q = refl
+  first-by (n ∷ ns) q = ap (cond (q .holds n) n) (first-by ns q)
+
+  -- the claim's own list is the checking order
   pub judged-follows : (q : Request P) → Follows p (requestChecks q) (judged p q)
-  unfolding judged requestChecks firstOf
-  judged-follows q =
-      request-check 7 (q .unlisted)
-      (request-check 8 (q .lengthWrong)
-      (request-check 9 (q .rangeWrong)
-      (request-check 10 (q .notPermitted)
-      (request-check 11 (q .valueWrong)
-      (request-check 12 (q .held)
-      (record { refusal = refl; kept = λ l. absurd (omega arith); empty = λ l. absurd (omega arith) }))))))
+  unfolding judged requestChecks
+  judged-follows q = decided-follows _ _ q (first-by (7 ∷ 8 ∷ 9 ∷ 10 ∷ 11 ∷ 12 ∷ []) q)
 
-request-numbered : {P : Type 0} (q : Request P) → Numbered 7 12 (requestChecks q)
+request-numbered : {P : Type 0} (q : Request P) → Numbered 7 greatest (requestChecks q)
 unfolding requestChecks
 request-numbered q = omega arith
 
@@ -134,37 +134,59 @@ module _ (m used : Module) (broadcast : Bool) (refusing : ℕ → List ℕ) wher
   framed [] cs o b a = a
   framed (f ∷ fs) cs o b a = rw (passes-cond (f .holds) (f .number) (firstOf fs) o (b .0)) (call-check (f .number) (f .holds) (b .1) (framed fs cs o (b .2) a))
 
-  -- a frame with the conditions fs and the request q, which o answers where the frame passes
-  port-answers : (fs : List Check) (q : Request Module) (o : Out) → Numbered 1 6 fs
-      → o .refusal ≡ judged used q .refusal → o .after ≡ judged used q .part → (1 ≤ judged used q .refusal → judged used q .reply ≡ [] → o .reply ≡ refusing (o .refusal)) → (broadcast ≡ true → o .reply ≡ []) → length (o .reply) ≤ 256
-      → Answers m used broadcast refusing (fs ++ requestChecks q) (ifPasses (firstOf fs) m o)
-  port-answers fs q o b r p n e l =
-      let f = judged-follows used q in
-      let late : 1 ≤ o .refusal → 7 ≤ o .refusal = λ k. omega (arith, f .refusal, first-least 7 12 (requestChecks q) (request-numbered q) (omega (arith, f .refusal))) in
-      framed fs (requestChecks q) o b
-      (record {
-        refusal = r ∙ f .refusal;
+-- A frame on either wire ------------------------------------------------------------------
+
+-- what is used of a wire: its replies fit the least buffer, and a refused request is answered by `refusing`
+record Replies (w : Wire) (f : List ℕ) (m : Module) (refusing : ℕ → List ℕ) : Type 0 where
+  short : length (w .replied (w .port m .address) f (judged (usedUp w m) (requestOf w f m))) ≤ 256
+  tells : (n : ℕ) → 7 ≤ n → w .replied (w .port m .address) f (refused n (usedUp w m)) ≡ refusing n
+
+-- nothing, or the wire's reply
+unanswered : (t : Bool) (bs : List ℕ) → t ≡ true → cond t [] bs ≡ []
+unanswered t bs e = rw e
+
+module _ (w : Wire) (f : List ℕ) (m : Module) (refusing : ℕ → List ℕ) (r : Replies w f m refusing) where
+  abbrev toAll : Bool
+  toAll = eqb (w .addressee f) (w .broadcast)
+
+  abbrev told : ℕ → List ℕ
+  told n = cond toAll [] (refusing n)
+
+  -- the request refused, or accepted
+  acted-answers : Answers m (usedUp w m) toAll told (requestChecks (requestOf w f m)) (frameActed w f m)
+  unfolding frameActed frameAnswered
+  acted-answers =
+      let q = requestOf w f m in
+      let g = judged-follows (usedUp w m) q in
+      let late : 1 ≤ judged (usedUp w m) q .refusal → 7 ≤ judged (usedUp w m) q .refusal = λ k. omega (arith, g .refusal, first-least 7 greatest (requestChecks q) (request-numbered q) (omega (arith, g .refusal))) in
+      record {
+        refusal = g .refusal;
         early = λ k s. absurd (omega (arith, late k));
-        late = λ k. p ∙ f .kept (omega arith);
-        told = λ k. n (omega arith) (f .empty (omega arith));
-        quiet = e;
-        fits = l;
-      })
+        late = λ k. g .kept (omega arith);
+        told = λ k. ap (cond toAll []) (judged-either (λ o. 7 ≤ o .refusal → w .replied (w .port m .address) f o ≡ refusing (o .refusal)) (usedUp w m) q (λ n l _. r .tells n l) (λ _ l. absurd (omega arith)) k);
+        quiet = unanswered toAll _;
+        fits = cond-case (λ (l : List ℕ). length l ≤ 256) toAll [] _ (λ _. omega arith) (λ _. r .short);
+      }
 
-module _ (f : List ℕ) (m : Module) where
-  spinel-answers : Answers m (spinelUsed m) (eqb (spinelTo f) spinelBroadcast) (λ n. refusalReply n (spinel f) m) (spinelChecks (m .spinel .address) f ++ requestChecks (spinelAsked (spinelRequest f m) (spinelUsed m))) (spinelHandled f m)
-  unfolding spinelHandled spinelActed spinelAnswered spinelFrameRefusal spinelChecks firstOf refusalReply
-  spinel-answers =
-      let q = spinelAsked (spinelRequest f m) (spinelUsed m) in
-      let fits = spinel-fits (m .spinel .address) (spinelTo f) (signatureOf f) (judged (spinelUsed m) q) (spinel-short _ _ _) in
-      port-answers m (spinelUsed m) _ _ (spinelChecks (m .spinel .address) f) q (spinelActed f m) (omega arith) refl refl (λ _ e. rw e) (λ e. rw e) (omega arith)
+  -- behind the frame's own conditions
+  handled-answers : Answers m (usedUp w m) toAll told (frameChecks w (w .port m .address) f ++ requestChecks (requestOf w f m)) (frameHandled w f m)
+  unfolding frameHandled frameRefusal frameChecks firstOf
+  handled-answers = framed m (usedUp w m) toAll told (frameChecks w (w .port m .address) f) _ (frameActed w f m) (omega arith) acted-answers
 
-  modbus-answers : Answers m (modbusUsed m) (eqb (modbusTo f) modbusBroadcast) (λ n. refusalReply n (modbus f) m) (modbusChecks (m .modbus .address) f ++ requestChecks (modbusAsked (m .modbus .permitted) (functionOf f) (modbusBody f) (modbusUsed m))) (modbusHandled f m)
-  unfolding modbusHandled modbusActed modbusAnswered modbusFrameRefusal modbusChecks firstOf refusalReply
-  modbus-answers =
-      let q = modbusAsked (m .modbus .permitted) (functionOf f) (modbusBody f) (modbusUsed m) in
-      let fits = modbus-fits (m .modbus .address) (modbusTo f) (functionOf f) (judged (modbusUsed m) q) (modbus-short _ _ _ _ _) in
-      port-answers m (modbusUsed m) _ _ (modbusChecks (m .modbus .address) f) q (modbusActed f m) (omega arith) refl refl (λ k _. rw (ne-eqb (judged (modbusUsed m) q .refusal) 0 (λ z. omega arith))) (λ e. rw e) fits
+  -- behind the buffer's
+  frame-answers : (room : ℕ) → Answers m (usedUp w m) toAll told (wireChecks w m room f) (frameCall w room f m)
+  unfolding frameCall
+  frame-answers room = call-check m (usedUp w m) toAll told 1 (bufferShort room) (omega arith) handled-answers
+
+spinel-replies : (f : List ℕ) (m : Module) → Replies spinelWire f m (λ n. spinelReply (m .spinel .address) (signatureOf f) (ackOf n) [])
+spinel-replies f m =
+    let fits = spinel-fits (m .spinel .address) (signatureOf f) (judged (usedUp spinelWire m) (requestOf spinelWire f m)) (spinel-short _ _ _) in
+    record { short = omega arith; tells = λ _ _. refl }
+
+modbus-replies : (f : List ℕ) (m : Module) → Replies modbusWire f m (λ n. exceptionReply (m .modbus .address) (functionOf f) (exceptionOf n))
+modbus-replies f m =
+    let fits = modbus-fits (m .modbus .address) (functionOf f) (judged (usedUp modbusWire m) (requestOf modbusWire f m)) (modbus-short _ _ _ _ _) in
+    record { short = fits; tells = λ n l. rw (ne-eqb n 0 (λ z. omega arith)) }
 
 -- a call without conditions
 plain : (m : Module) (refusing : ℕ → List ℕ) (o : Out) → o .refusal ≡ 0 → length (o .reply) ≤ 256 → Answers m m false refusing [] o
@@ -172,14 +194,14 @@ unfolding firstOf
 plain m refusing o e l = record { refusal = e; early = λ k. absurd (omega arith); late = λ k. absurd (omega arith); told = λ k. absurd (omega arith); quiet = λ k. cc; fits = l }
 
 call-answers : (m : Module) (room : ℕ) (a : Act) → Answers m (permissionEnded a m) (isBroadcast a) (λ n. refusalReply n a m) (checks m room a) (acted room a m)
-unfolding permissionEnded isBroadcast checks sampleCall sampled temperatureCall spinelCall modbusCall
+unfolding permissionEnded isBroadcast refusalReply checks sampleCall sampled temperatureCall
 call-answers m room (sample bits) = call-check m m false _ 1 (bufferShort room) (omega arith) (plain m _ (sampled bits m) refl (le-trans (notice-fits _ _ _ _) (omega arith)))
 call-answers m room (temperature good tenths) = plain m _ _ refl (omega arith)
-call-answers m room (spinel f) = call-check m (spinelUsed m) _ _ 1 (bufferShort room) (omega arith) (spinel-answers f m)
-call-answers m room (modbus f) = call-check m (modbusUsed m) _ _ 1 (bufferShort room) (omega arith) (modbus-answers f m)
+call-answers m room (spinel f) = frame-answers spinelWire f m _ (spinel-replies f m) room
+call-answers m room (modbus f) = frame-answers modbusWire f m _ (modbus-replies f m) room
 
-checks-numbered : (m : Module) (room : ℕ) (a : Act) → Numbered 1 12 (checks m room a)
-unfolding checks spinelChecks modbusChecks requestChecks
+checks-numbered : (m : Module) (room : ℕ) (a : Act) → Numbered 1 greatest (checks m room a)
+unfolding checks frameChecks requestChecks
 checks-numbered m room (sample bits) = omega arith
 checks-numbered m room (temperature good tenths) = omega arith
 checks-numbered m room (spinel f) = omega arith
@@ -192,8 +214,8 @@ refusalsHold m c =
     let b = checks-numbered m (c .room) (c .act) in
     record {
       exactly = λ n l. (λ e. refused-by n _ l (sym (a .refusal) ∙ e), λ r. a .refusal ∙ first-of n _ r);
-      accepted = (λ e. none-holds 12 _ b (sym (a .refusal) ∙ e), λ r. a .refusal ∙ first-none _ r);
-      most = rw (a .refusal) (first-most 1 12 _ b);
+      accepted = (λ e. none-holds greatest _ b (sym (a .refusal) ∙ e), λ r. a .refusal ∙ first-none _ r);
+      most = rw (a .refusal) (first-most 1 greatest _ b);
       early = a .early;
       late = a .late;
       told = a .told;

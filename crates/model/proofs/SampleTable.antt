@@ -2,7 +2,7 @@
 use mathlib.Core.Path.{refl}
 use mathlib.Core.List.{[], _∷_, _++_}
 use lib.ListN.{replicate}
-use Rattle.model.specs.State.{freshModule, withInputs, freshLine}
+use Rattle.model.specs.State.{freshModule, withInputs, withSampling, withModes, freshLine}
 use Rattle.model.proofs.Computing.{computing}
 use Rattle.model.proofs.Exchanges.{Plays, _⇒_, sampleOf, lending, asked, requested, silently, answers, refuses, gives, shows, echoes, excepts}
 use Rattle.model.proofs.Exchanges.{quiet, inTurn}
@@ -161,7 +161,7 @@ pub record SampleTable : Type 0 where
       [])
   -- counters at 65,535, typed: an edge of input 1 makes it 0, the next 1, of which 2 cannot be deducted; input 2 stays
   pub pastTheLimit : Plays
-      (withInputs freshModule (record { lines = replicate 16 freshLine; modes = replicate 16 3; counters = replicate 16 65535; sampling = 1 })) (
+      (withInputs (withSampling (withModes freshModule (replicate 16 3)) 1) (record { lines = replicate 16 freshLine; counters = replicate 16 65535 })) (
       (sampleOf 1 ⇒ silently 0) ∷
       (asked 0x60 (0x01 ∷ []) ⇒ answers (0x10 ∷ 0x00 ∷ 0x00 ∷ [])) ∷
       (sampleOf 0 ⇒ silently 0) ∷

@@ -3,15 +3,14 @@
 use Prim.Native.Nat.{ℕ, suc, _<_}
 use mathlib.Core.Path.{_≡_, refl}
 use mathlib.Core.List.{List, _∷_, _++_}
-use mathlib.Core.Bool.{Bool, true, false, true≢false}
+use mathlib.Core.Bool.{Bool, false, true≢false}
 use lib.ListN.{length, getD, drop}
 use lib.Dec.{eqb}
 use borrow.Author.Tests.{not-false}
 use Rattle.lists.specs.Entries.{entries}
 use Rattle.lists.proofs.Choices.{cond-case, cond-eq}
 use Rattle.model.specs.declared.Module.{Module}
-use Rattle.model.specs.declared.Inputs.{Inputs}
-use Rattle.model.specs.State.{withInputs, withCounters, withModes}
+use Rattle.model.specs.State.{withCounters, withModes, withSampling}
 use Rattle.model.specs.Refusals.{Request, notListed, onPart}
 use Rattle.model.specs.Counters.{listRead, readCounters, parameters, valuesRead, deductCounters, clearAll, deduct, setModesList, setModes, setSampling, readSampling, setPort, readPort, resetModule, reset}
 use Rattle.model.specs.Outputs.{readStates}
@@ -20,13 +19,14 @@ use Rattle.model.specs.Temperature.{readTemperature, readThermostats}
 use Rattle.model.specs.Spinel.{SpinelRequest, spinelAsked}
 use Rattle.model.specs.Tally.{Tally, Account, withMode, changed, spinelCollects, spinelClears, spinelResets, spinelMode, spinelSampling, spinelTallied}
 use Rattle.model.proofs.Bridge.{amounts-agree, modes-given, taken-agrees, kept}
-use Rattle.model.proofs.Invariant.{Inv}
+use Rattle.model.proofs.Invariant.{Counting, countingOf, Inv}
+use Rattle.model.proofs.Judged.{order}
 use Rattle.model.proofs.Accepted.{Good}
 use Rattle.model.proofs.Effects as effects
 
-module _ (i : ℕ) (small : i < 16) (m : Module) (t : Tally) (v : Inv i (m .inputs) t) (d : List ℕ) (framed : List ℕ → List ℕ) where
-  abbrev x : Inputs
-  x = m .inputs
+module _ (i : ℕ) (small : i < 16) (m : Module) (t : Tally) (v : Inv i (countingOf m) t) (d : List ℕ) (framed : List ℕ → List ℕ) where
+  abbrev x : Counting
+  x = countingOf m
 
   abbrev u : Account
   u = t .input (suc i)
@@ -48,27 +48,27 @@ module _ (i : ℕ) (small : i < 16) (m : Module) (t : Tally) (v : Inv i (m .inpu
   idle c r h60 h61 h62 h6A hE0 hE3 = rw (h60, h61, h62, h6A, hE0, hE3, kept u) v
 
   read-good : (s : List ℕ → List ℕ) → ((bs : List ℕ) → drop 8 (framed (0x10 ∷ bs)) ≡ bs ++ s bs)
-      → Good i (by 0x60) (onPart (λ cs. withInputs m (withCounters x cs)) (readCounters d (x .counters)))
-  unfolding readCounters spinelSampling spinelResets spinelClears spinelMode spinelCollects changed
+      → Good i (by 0x60) (onPart (withCounters m) (readCounters d (m .inputs .counters)))
+  unfolding order readCounters spinelSampling spinelResets spinelClears spinelMode spinelCollects changed
   read-good s e = record {
-    keeps = λ p. rw (taken-agrees i d) (effects.reads i small x (t .sampling) u v (parameters d) _ (s _) (not-false _ (p .value)) (e (valuesRead (parameters d) (x .counters))));
+    keeps = λ p. rw (taken-agrees i d) (effects.reads i small x (t .sampling) u v (parameters d) _ (s _) (not-false _ (p .at 11 refl)) (e (valuesRead (parameters d) (x .counters))));
   }
 
-  deduct-good : Good i (by 0x61) (onPart (λ cs. withInputs m (withCounters x cs)) (deductCounters d (x .counters)))
-  unfolding deductCounters clearAll deduct spinelSampling spinelResets spinelClears spinelMode spinelCollects changed
+  deduct-good : Good i (by 0x61) (onPart (withCounters m) (deductCounters d (m .inputs .counters)))
+  unfolding order deductCounters clearAll deduct spinelSampling spinelResets spinelClears spinelMode spinelCollects changed
   deduct-good =
-      cond-case (λ q. Good i (by 0x61) (onPart (λ cs. withInputs m (withCounters x cs)) q)) (eqb (length d) 1) _ _
-      (λ e. record { keeps = λ p. rw (e, not-false (eqb (getD d 0 0) 0) (p .value)) (effects.clears-all i small x (t .sampling) u v) })
-      (λ e. record { keeps = λ p. rw (e, amounts-agree i d) (effects.deducts i small x (t .sampling) u v (entries 3 d) (not-false _ (p .value))) })
+      cond-case (λ q. Good i (by 0x61) (onPart (withCounters m) q)) (eqb (length d) 1) _ _
+      (λ e. record { keeps = λ p. rw (e, not-false (eqb (getD d 0 0) 0) (p .at 11 refl)) (effects.clears-all i small x (t .sampling) u v) })
+      (λ e. record { keeps = λ p. rw (e, amounts-agree i d) (effects.deducts i small x (t .sampling) u v (entries 3 d) (not-false _ (p .at 11 refl))) })
 
-  modes-good : Good i (by 0x6A) (onPart (λ ms. withInputs m (withModes x ms)) (setModesList d (x .modes)))
-  unfolding setModesList setModes spinelSampling spinelResets spinelClears spinelMode spinelCollects changed
+  modes-good : Good i (by 0x6A) (onPart (withModes m) (setModesList d (m .settings .modes)))
+  unfolding order setModesList setModes spinelSampling spinelResets spinelClears spinelMode spinelCollects changed
   modes-good = record {
-    keeps = λ p. rw (modes-given i d) (rw (kept (withMode _ u)) (effects.modes i small x (t .sampling) u v (entries 2 d) (not-false _ (p .value))));
+    keeps = λ p. rw (modes-given i d) (rw (kept (withMode _ u)) (effects.modes i small x (t .sampling) u v (entries 2 d) (not-false _ (p .at 11 refl))));
   }
 
-  sampling-good : Good i (by 0x62) (onPart (withInputs m) (setSampling d x))
-  unfolding setSampling spinelSampling spinelResets spinelClears spinelMode spinelCollects changed
+  sampling-good : Good i (by 0x62) (onPart (withSampling m) (setSampling d))
+  unfolding order setSampling spinelSampling spinelResets spinelClears spinelMode spinelCollects changed
   sampling-good = record { keeps = λ p. rw (kept u) (effects.samplings i small x (t .sampling) u v (getD d 0 0)) }
 
   reset-good : Good i (by 0xE3) (resetModule d m)
@@ -80,7 +80,7 @@ module _ (i : ℕ) (small : i < 16) (m : Module) (t : Tally) (v : Inv i (m .inpu
   address-good a b = record { keeps = λ p. effects.resets i small x (t .sampling) u v }
 
   -- a request that leaves the inputs as they are, by such an instruction
-  still : (c : ℕ) (q : Request Module) → q .after .inputs ≡ x
+  still : (c : ℕ) (q : Request Module) → countingOf (q .after) ≡ x
       → eqb c 0x60 ≡ false
       → eqb c 0x61 ≡ false
       → eqb c 0x62 ≡ false
@@ -91,7 +91,8 @@ module _ (i : ℕ) (small : i < 16) (m : Module) (t : Tally) (v : Inv i (m .inpu
   still c q e h60 h61 h62 h6A hE0 hE3 = record { keeps = λ p. rw e (idle c (framed (q .reply)) h60 h61 h62 h6A hE0 hE3) }
 
   unlisted-good : (c : ℕ) → Good i (by c) (notListed m)
-  unlisted-good c = record { keeps = λ p. absurd (true≢false (p .listed)) }
+  unfolding order
+  unlisted-good c = record { keeps = λ p. absurd (true≢false (p .at 7 refl)) }
 
   -- every instruction; `tail` says where the data of a reply to 60H stand
   pub spinel-good : (q : SpinelRequest) (c : ℕ) (s : List ℕ → List ℕ) → q .content ≡ d → q .instruction ≡ c

@@ -4,8 +4,8 @@ use mathlib.Core.Path.{refl}
 use mathlib.Core.List.{[], _∷_}
 use lib.ListN.{replicate}
 use lib.IntN.{pos}
-use Rattle.model.specs.State.{freshModule, withInputs, withPresets, withThermostats, withReading, withNotice, withSpinel, withModbus, line}
-use Rattle.model.specs.State.{preset, thermostat, notice, port, freshLine, freshPreset, freshThermostat}
+use Rattle.model.specs.State.{freshModule, withInputs, withSampling, withModes, withPresets, withThermostats, withReading, withNotice}
+use Rattle.model.specs.State.{withSpinel, withModbus, line, preset, thermostat, notice, port, freshLine, freshPreset, freshThermostat}
 use Rattle.model.specs.declared.Reading.the-variants.{Valid}
 use lib.Ieee.{ofBits, binary32}
 use Rattle.model.proofs.Computing.{computing}
@@ -15,7 +15,7 @@ use Rattle.model.proofs.Exchanges.{refuses, refusesFrom, announces, sho
 pub record UnreachedTable : Type 0 where
   -- sampling number 0: a differing sample flips
   pub numberZero : Plays
-      (withInputs freshModule (record { lines = line false 0 ∷ replicate 15 freshLine; modes = replicate 16 3; counters = replicate 16 0; sampling = 0 })) (
+      (withInputs (withSampling (withModes freshModule (replicate 16 3)) 0) (record { lines = line false 0 ∷ replicate 15 freshLine; counters = replicate 16 0 })) (
       (sampleOf 1 ⇒ silently 0) ∷
       (asked 0x31 [] ⇒ answers (0x00 ∷ 0x01 ∷ [])) ∷
       (asked 0x60 (0x01 ∷ []) ⇒ answers (0x10 ∷ 0x00 ∷ 0x01 ∷ [])) ∷
@@ -25,21 +25,21 @@ pub record UnreachedTable : Type 0 where
       [])
   -- a run of 255 and a differing sample: it flips; an equal one ends the run
   pub runOf255 : Plays
-      (withInputs freshModule (record { lines = line false 255 ∷ replicate 15 freshLine; modes = replicate 16 3; counters = replicate 16 0; sampling = 255 })) (
+      (withInputs (withSampling (withModes freshModule (replicate 16 3)) 255) (record { lines = line false 255 ∷ replicate 15 freshLine; counters = replicate 16 0 })) (
       (sampleOf 1 ⇒ silently 0) ∷
       (asked 0x31 [] ⇒ answers (0x00 ∷ 0x01 ∷ [])) ∷
       (asked 0x60 (0x01 ∷ []) ⇒ answers (0x10 ∷ 0x00 ∷ 0x01 ∷ [])) ∷
       [])
   -- a run beyond the number and an equal sample: none
   pub runEnded : Plays
-      (withInputs freshModule (record { lines = line true 30 ∷ replicate 15 freshLine; modes = replicate 16 3; counters = replicate 16 0; sampling = 20 })) (
+      (withInputs (withSampling (withModes freshModule (replicate 16 3)) 20) (record { lines = line true 30 ∷ replicate 15 freshLine; counters = replicate 16 0 })) (
       (sampleOf 1 ⇒ silently 0) ∷
       (sampleOf 0 ⇒ silently 0) ∷
       (asked 0x31 [] ⇒ answers (0x00 ∷ 0x01 ∷ [])) ∷
       [])
   -- a mode above 3 selects no edge
   pub modeFour : Plays
-      (withInputs freshModule (record { lines = replicate 16 freshLine; modes = replicate 16 4; counters = replicate 16 7; sampling = 1 })) (
+      (withInputs (withSampling (withModes freshModule (replicate 16 4)) 1) (record { lines = replicate 16 freshLine; counters = replicate 16 7 })) (
       (sampleOf 1 ⇒ silently 0) ∷
       (sampleOf 0 ⇒ silently 0) ∷
       (asked 0x60 (0x01 ∷ []) ⇒ answers (0x10 ∷ 0x00 ∷ 0x07 ∷ [])) ∷
@@ -120,7 +120,8 @@ pub record UnreachedTable : Type 0 where
       (asked 0x11 [] ⇒ answers (0x61 ∷ 0x00 ∷ 0x01 ∷ [])) ∷
       [])
   -- a mode that the list lacks reads as 0 and selects no edge
-  pub modesLacking : Plays (withInputs freshModule (record { lines = replicate 16 freshLine; modes = []; counters = replicate 16 0; sampling = 1 })) (
+  pub modesLacking : Plays
+      (withInputs (withSampling (withModes freshModule ([])) 1) (record { lines = replicate 16 freshLine; counters = replicate 16 0 })) (
       (sampleOf 1 ⇒ silently 0) ∷
       (sampleOf 0 ⇒ silently 0) ∷
       (asked 0x60 (0x01 ∷ []) ⇒ answers (0x10 ∷ 0x00 ∷ 0x00 ∷ [])) ∷
@@ -130,7 +131,7 @@ pub record UnreachedTable : Type 0 where
       [])
   -- a counter that the list lacks reads as 0 and stores nothing
   pub countersLacking : Plays
-      (withInputs freshModule (record { lines = replicate 16 freshLine; modes = replicate 16 3; counters = []; sampling = 1 })) (
+      (withInputs (withSampling (withModes freshModule (replicate 16 3)) 1) (record { lines = replicate 16 freshLine; counters = [] })) (
       (sampleOf 1 ⇒ silently 0) ∷
       (asked 0x60 (0x01 ∷ []) ⇒ answers (0x10 ∷ 0x00 ∷ 0x00 ∷ [])) ∷
       (asked 0x61 (0x01 ∷ 0x00 ∷ 0x01 ∷ []) ⇒ refuses 11 0x03) ∷

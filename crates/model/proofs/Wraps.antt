@@ -5,7 +5,7 @@ use mathlib.Core.Path.{_≡_, refl, ap, _∙_}
 use mathlib.Core.List.{List, [], _∷_}
 use lib.ListN.{replicate}
 use Rattle.model.specs.declared.Module.{Module}
-use Rattle.model.specs.State.{freshModule, withInputs, withCounters}
+use Rattle.model.specs.State.{freshModule, withCounters}
 use Rattle.model.specs.Call.{Call}
 use Rattle.model.specs.Calls.{run}
 use Rattle.model.proofs.Computing.{computing}
@@ -21,7 +21,7 @@ ready = run freshModule (asked 0x6A (0x01 ∷ 0x03 ∷ []) ∷ asked 0x62 (0x01 
 
 -- the same, the counter of input 1 at c
 abbrev counted : ℕ → Module
-counted c = withInputs ready (withCounters (ready .inputs) (c ∷ replicate 15 0))
+counted c = withCounters ready (c ∷ replicate 15 0)
 
 -- one cycle more
 turn : (c : ℕ) (xs : List Call) → run (counted c) (sampleOf 1 ∷ sampleOf 0 ∷ xs) ≡ run (counted (((c + 1) % 65536 + 1) % 65536)) xs

@@ -14,18 +14,19 @@ use Rattle.model.specs.Outputs.{pulsed}
 use Rattle.model.specs.Notice.{noticeWritten}
 use Rattle.model.specs.Temperature.{readingOf, taken}
 use Rattle.model.specs.Refusals.{Out, silent, bufferShort}
-use Rattle.model.specs.Spinel.{spinelHandled}
-use Rattle.model.specs.Modbus.{modbusHandled}
+use Rattle.model.specs.Wire.{frameCall}
+use Rattle.model.specs.Spinel.{spinelWire}
+use Rattle.model.specs.Modbus.{modbusWire}
 use Rattle.model.specs.Call.{Act, Call, sample, temperature, spinel, modbus}
 
 -- one sample (01, Samples and edges): debounce, then counting, then one step of every pulse; the notice comes last and sees the new inputs
 unfoldable pub sampled : ℕ → Module → Out
 sampled bits m =
-    let x = inputsSampled bits (m .inputs) in
+    let x = inputsSampled bits (m .settings) (m .inputs) in
     record {
       refusal = 0;
       after = withOutputs (withInputs m x) (map pulsed (m .outputs));
-      reply = noticeWritten (m .spinel .address) (m .notice) (edges (m .inputs .lines) (x .lines)) x;
+      reply = noticeWritten (m .spinel .address) (m .settings .notice) (edges (m .inputs .lines) (x .lines)) x;
     }
 
 -- too short a buffer (1): the sample is lost, and neither a run nor a counter nor a pulse moves
@@ -36,11 +37,12 @@ sampleCall room bits m = cond (bufferShort room) (silent 1 m) (sampled bits m)
 unfoldable pub temperatureCall : ℕ → Bool → ℤ → Module → Out
 temperatureCall room good tenths m = silent 0 (taken (readingOf good tenths) m)
 
-unfoldable pub spinelCall : ℕ → List ℕ → Module → Out
-spinelCall room f m = cond (bufferShort room) (silent 1 m) (spinelHandled f m)
+-- a frame on either port
+abbrev pub spinelCall : ℕ → List ℕ → Module → Out
+spinelCall room f m = frameCall spinelWire room f m
 
-unfoldable pub modbusCall : ℕ → List ℕ → Module → Out
-modbusCall room f m = cond (bufferShort room) (silent 1 m) (modbusHandled f m)
+abbrev pub modbusCall : ℕ → List ℕ → Module → Out
+modbusCall room f m = frameCall modbusWire room f m
 
 -- any of the four calls
 abbrev pub acted : ℕ → Act → Module → Out

@@ -9,12 +9,11 @@ use Rattle.lists.specs.Walk.{allPass}
 use Rattle.lists.specs.Numbers.{bytes}
 use Rattle.lists.specs.Entries.{Entry, entries}
 use Rattle.model.specs.declared.Line.{Line}
-use Rattle.model.specs.declared.Inputs.{Inputs}
 use Rattle.model.specs.declared.Port.{Port}
 use Rattle.model.specs.declared.Module.{Module}
-use Rattle.model.specs.State.{line, freshOutput, permit, port, withSampling, withSpinel}
+use Rattle.model.specs.State.{line, freshOutput, permit, port, withSpinel}
 use Rattle.model.specs.Samples.{places, counterBits, counterBytes}
-use Rattle.model.specs.Refusals.{Request, accepting, refuse8, refuse10, refuse11}
+use Rattle.model.specs.Refusals.{Request, accepting, telling, refuse}
 
 -- an input or output that there is; any other number is refused 11
 abbrev pub isNumber : ℕ → Bool
@@ -41,8 +40,8 @@ unfoldable pub listed : List ℕ → List ℕ
 listed d = cond (eqb (length d) 1 && eqb (getD d 0 0) 0) everyNumber d
 
 -- a list read of the bytes that `show` gives for a number
-unfoldable pub listRead : {P : Type 0} → (ℕ → List ℕ) → List ℕ → P → Request P
-listRead show d p = refuse8 (not (itemsOf 1 d)) (refuse11 (not (all isNumber (listed d))) (accepting p (flatMap show (listed d))))
+unfoldable pub listRead : (ℕ → List ℕ) → List ℕ → Request (Unit {0})
+listRead show d = refuse 8 (not (itemsOf 1 d)) (refuse 11 (not (all isNumber (listed d))) (telling (flatMap show (listed d))))
 
 -- 60H: read, and collect --------------------------------------------------------------
 
@@ -70,8 +69,8 @@ valuesRead (p ∷ ps) cs = bytes counterBytes (getD cs (numberIn p - 1) 0) ++ va
 
 unfoldable pub readCounters : List ℕ → List ℕ → Request (List ℕ)
 readCounters d cs =
-    refuse8 (not (itemsOf 1 d))
-    (refuse11 (not (all (λ p. isNumber (numberIn p)) (parameters d)))
+    refuse 8 (not (itemsOf 1 d))
+    (refuse 11 (not (all (λ p. isNumber (numberIn p)) (parameters d)))
     (accepting (foldl readOne cs (parameters d)) (counterBits ∷ valuesRead (parameters d) cs)))
 
 -- 61H: deduct, or clear all ------------------------------------------------------------
@@ -85,20 +84,20 @@ deductOne cs e = set cs (e .number - 1) (getD cs (e .number - 1) 0 - e .value)
 
 -- all or none: the counters change only where every amount was covered in its turn
 unfoldable pub deduct : List Entry → List ℕ → Request (List ℕ)
-deduct es cs = refuse11 (not (allPass deductible deductOne cs es)) (accepting (foldl deductOne cs es) [])
+deduct es cs = refuse 11 (not (allPass deductible deductOne cs es)) (accepting (foldl deductOne cs es) [])
 
 -- cleared (01): the counters zeroed, nothing collected
 abbrev pub clearedCounters : List ℕ
 clearedCounters = replicate places 0
 
 unfoldable pub clearAll : ℕ → Request (List ℕ)
-clearAll b = refuse11 (not (eqb b 0)) (accepting clearedCounters [])
+clearAll b = refuse 11 (not (eqb b 0)) (accepting clearedCounters [])
 
 -- one byte clears, and must be 00; else three bytes for each deduction, the input and the amount
 unfoldable pub deductCounters : List ℕ → List ℕ → Request (List ℕ)
 deductCounters d cs =
     cond (eqb (length d) 1) (clearAll (getD d 0 0))
-    (refuse8 (not (itemsOf (1 + counterBytes) d)) (deduct (entries (1 + counterBytes) d) cs))
+    (refuse 8 (not (itemsOf (1 + counterBytes) d)) (deduct (entries (1 + counterBytes) d) cs))
 
 -- 6AH, 6BH: modes ------------------------------------------------------------------------
 
@@ -109,11 +108,11 @@ unfoldable pub setMode : List ℕ → Entry → List ℕ
 setMode ms e = set ms (e .number - 1) (e .value)
 
 unfoldable pub setModes : List Entry → List ℕ → Request (List ℕ)
-setModes es ms = refuse11 (not (all modeSettable es)) (accepting (foldl setMode ms es) [])
+setModes es ms = refuse 11 (not (all modeSettable es)) (accepting (foldl setMode ms es) [])
 
 -- 6AH: two bytes for each input, which one and its new mode
 unfoldable pub setModesList : List ℕ → List ℕ → Request (List ℕ)
-setModesList d ms = refuse8 (not (itemsOf 2 d)) (setModes (entries 2 d) ms)
+setModesList d ms = refuse 8 (not (itemsOf 2 d)) (setModes (entries 2 d) ms)
 
 -- 6BH: a byte for each input asked for
 unfoldable pub modeShown : List ℕ → ℕ → List ℕ
@@ -121,47 +120,47 @@ modeShown ms n = getD ms (n - 1) 0 ∷ []
 
 -- 62H, 63H: the sampling number, 1 to 255 ---------------------------------------------------
 
-unfoldable pub setSampling : List ℕ → Inputs → Request Inputs
-setSampling d x = refuse8 (not (eqb (length d) 1)) (refuse11 (not (within 1 255 (getD d 0 0))) (accepting (withSampling x (getD d 0 0)) []))
+unfoldable pub setSampling : List ℕ → Request ℕ
+setSampling d = refuse 8 (not (eqb (length d) 1)) (refuse 11 (not (within 1 255 (getD d 0 0))) (accepting (getD d 0 0) []))
 
-unfoldable pub readSampling : {P : Type 0} → List ℕ → Inputs → P → Request P
-readSampling d x p = refuse8 (someData d) (accepting p (x .sampling ∷ []))
+unfoldable pub readSampling : List ℕ → ℕ → Request (Unit {0})
+readSampling d n = refuse 8 (someData d) (telling (n ∷ []))
 
 -- E4H, E0H, F0H, E3H: permission, address and speed, reset -------------------------------------
 
--- reset (01) of each part: outputs go off and their pulses end, counters and runs start from 0, no port stays permitted; all else it keeps
-unfoldable pub resetInputs : Inputs → Inputs
-resetInputs x = record { lines = map (λ (y : Line). line (y .stable) 0) (x .lines); modes = x .modes; counters = clearedCounters; sampling = x .sampling }
+-- reset (01): outputs go off and their pulses end, counters and runs start from 0, no port stays permitted; all else it keeps
+
+-- no run is left, and the stable states stay
+unfoldable pub runsEnded : List Line → List Line
+runsEnded ls = map (λ (y : Line). line (y .stable) 0) ls
 
 unfoldable pub reset : Module → Module
 reset m = record {
-  inputs = resetInputs (m .inputs);
+  inputs = record { lines = runsEnded (m .inputs .lines); counters = clearedCounters };
   outputs = replicate places freshOutput;
-  presets = m .presets;
-  thermostats = m .thermostats;
+  settings = m .settings;
   reading = m .reading;
   last = m .last;
-  notice = m .notice;
   spinel = permit false (m .spinel);
   modbus = permit false (m .modbus);
 }
 
 -- E4H permits the port's next request to configure; to FE it is refused 10
 unfoldable pub givePermission : Bool → List ℕ → Port → Request Port
-givePermission toUniversal d p = refuse8 (someData d) (refuse10 toUniversal (accepting (permit true p) []))
+givePermission toUniversal d p = refuse 8 (someData d) (refuse 10 toUniversal (accepting (permit true p) []))
 
 -- E0H: a new address, which may be no special one, and one of twelve speed codes; with a permission only, not to FE, and then a reset
 unfoldable pub setPort : Bool → Bool → List ℕ → Module → Request Module
 setPort permitted toUniversal d m =
-    refuse8 (not (eqb (length d) 2))
-    (refuse10 (toUniversal || not permitted)
-    (refuse11 (not (within 0x00 0xFD (getD d 0 0) && within 0x00 0x0B (getD d 1 0)))
+    refuse 8 (not (eqb (length d) 2))
+    (refuse 10 (toUniversal || not permitted)
+    (refuse 11 (not (within 0x00 0xFD (getD d 0 0) && within 0x00 0x0B (getD d 1 0)))
     (accepting (reset (withSpinel m (port (getD d 0 0) (getD d 1 0) false))) [])))
 
 -- F0H: the port's address, then its speed code
-unfoldable pub readPort : {P : Type 0} → List ℕ → Port → P → Request P
-readPort d p q = refuse8 (someData d) (accepting q (p .address ∷ p .speed ∷ []))
+unfoldable pub readPort : List ℕ → Port → Request (Unit {0})
+readPort d p = refuse 8 (someData d) (telling (p .address ∷ p .speed ∷ []))
 
 -- E3H: a reset and nothing else
 unfoldable pub resetModule : List ℕ → Module → Request Module
-resetModule d m = refuse8 (someData d) (accepting (reset m) [])
+resetModule d m = refuse 8 (someData d) (accepting (reset m) [])

@@ -1,7 +1,7 @@
 -- Demand 1: the conditions of every call in checking order, and what is claimed of every state and call.
 use Prim.Native.Nat.{ℕ, _+_, _≤_}
 use mathlib.Core.Bool.{Bool, true, false, cond, _&&_, _||_}
-use mathlib.Core.List.{List, [], _∷_, _++_}
+use mathlib.Core.List.{List, [], _∷_, _++_, map}
 use mathlib.Core.Path.{_≡_}
 use mathlib.Core.Logic.{_↔_}
 use lib.Dec.{eqb}
@@ -10,9 +10,10 @@ use Rattle.lists.specs.Tests.{within}
 use Rattle.lists.specs.Data.{over}
 use Rattle.model.specs.declared.Module.{Module}
 use Rattle.model.specs.Frames.{spinelTo, signatureOf, instructionOf, spinelBroadcast, spinelReply, modbusTo, functionOf, modbusBody, modbusBroadcast, exceptionReply}
-use Rattle.model.specs.Refusals.{bufferShort, frameLengthWrong, shapeWrong, sumWrong, crcWrong, spinelAddressWrong, modbusAddressWrong, spinelBroadcastWrong, modbusBroadcastWrong, Request, ackOf, exceptionOf}
-use Rattle.model.specs.Spinel.{spinelAsked, spinelRequest, spinelUsed}
-use Rattle.model.specs.Modbus.{startOf, modbusAsked, modbusUsed}
+use Rattle.model.specs.Refusals.{bufferShort, frameLengthWrong, Request, ackOf, exceptionOf}
+use Rattle.model.specs.Wire.{Wire, requestOf}
+use Rattle.model.specs.Spinel.{spinelWire}
+use Rattle.model.specs.Modbus.{startOf, modbusWire}
 use Rattle.model.specs.Call.{Act, Call, sample, temperature, spinel, modbus}
 use Rattle.model.specs.Calls.{step}
 
@@ -24,41 +25,34 @@ pub record Check : Type 0 where
 abbrev pub check : ℕ → Bool → Check
 check n b = record { number = n; holds = b }
 
--- 7 to 12
+-- the greatest number
+abbrev pub greatest : ℕ
+greatest = 12
+
+-- 7 to 12: their order is said here once more, so that the claim fixes it
 unfoldable pub requestChecks : {P : Type 0} → Request P → List Check
-requestChecks q =
-    check 7 (q .unlisted)
-    ∷ check 8 (q .lengthWrong)
-    ∷ check 9 (q .rangeWrong)
-    ∷ check 10 (q .notPermitted)
-    ∷ check 11 (q .valueWrong)
-    ∷ check 12 (q .held)
+requestChecks q = map (λ n. check n (q .holds n)) (7 ∷ 8 ∷ 9 ∷ 10 ∷ 11 ∷ 12 ∷ [])
+
+-- 2 to 6; 3 is Spinel's alone
+unfoldable pub frameChecks : Wire → ℕ → List ℕ → List Check
+frameChecks w own f =
+    check 2 (frameLengthWrong (w .least) f)
+    ∷ check 3 (w .shapeWrong f)
+    ∷ check 4 (w .checkWrong f)
+    ∷ check 5 (w .addressWrong own (w .addressee f))
+    ∷ check 6 (w .broadcastWrong f)
     ∷ []
 
--- 2 to 6
-unfoldable pub spinelChecks : ℕ → List ℕ → List Check
-spinelChecks own f =
-    check 2 (frameLengthWrong 9 f)
-    ∷ check 3 (shapeWrong f)
-    ∷ check 4 (sumWrong f)
-    ∷ check 5 (spinelAddressWrong own (spinelTo f))
-    ∷ check 6 (spinelBroadcastWrong (spinelTo f) (instructionOf f))
-    ∷ []
-
-unfoldable pub modbusChecks : ℕ → List ℕ → List Check
-modbusChecks own f =
-    check 2 (frameLengthWrong 4 f)
-    ∷ check 4 (crcWrong f)
-    ∷ check 5 (modbusAddressWrong own (modbusTo f))
-    ∷ check 6 (modbusBroadcastWrong (modbusTo f) (functionOf f))
-    ∷ []
+-- of a frame that comes by a wire
+abbrev pub wireChecks : Wire → Module → ℕ → List ℕ → List Check
+wireChecks w m room f = check 1 (bufferShort room) ∷ frameChecks w (w .port m .address) f ++ requestChecks (requestOf w f m)
 
 -- all conditions of a call in the state m, in checking order
 unfoldable pub checks : Module → ℕ → Act → List Check
 checks m room (sample bits) = check 1 (bufferShort room) ∷ []
 checks m room (temperature good tenths) = []
-checks m room (spinel f) = check 1 (bufferShort room) ∷ spinelChecks (m .spinel .address) f ++ requestChecks (spinelAsked (spinelRequest f m) (spinelUsed m))
-checks m room (modbus f) = check 1 (bufferShort room) ∷ modbusChecks (m .modbus .address) f ++ requestChecks (modbusAsked (m .modbus .permitted) (functionOf f) (modbusBody f) (modbusUsed m))
+checks m room (spinel f) = wireChecks spinelWire m room f
+checks m room (modbus f) = wireChecks modbusWire m room f
 
 -- condition n holds, and no earlier one
 pub data RefusedBy (n : ℕ) : List Check → Type 0 where
@@ -77,22 +71,18 @@ permissionEnded (temperature good tenths) m = m
 permissionEnded (spinel f) m = record {
   inputs = m .inputs;
   outputs = m .outputs;
-  presets = m .presets;
-  thermostats = m .thermostats;
+  settings = m .settings;
   reading = m .reading;
   last = m .last;
-  notice = m .notice;
   spinel = record { address = m .spinel .address; speed = m .spinel .speed; permitted = false };
   modbus = m .modbus;
 }
 permissionEnded (modbus f) m = record {
   inputs = m .inputs;
   outputs = m .outputs;
-  presets = m .presets;
-  thermostats = m .thermostats;
+  settings = m .settings;
   reading = m .reading;
   last = m .last;
-  notice = m .notice;
   spinel = m .spinel;
   modbus = record { address = m .modbus .address; speed = m .modbus .speed; permitted = false };
 }
@@ -115,7 +105,7 @@ pub record Refusals (m : Module) (c : Call) : Type 0 where
   -- refused by n exactly when condition n holds and no earlier one; accepted exactly when none holds
   pub exactly : (n : ℕ) → 1 ≤ n → (step m c .refusal ≡ n) ↔ RefusedBy n (checks m (c .room) (c .act))
   pub accepted : (step m c .refusal ≡ 0) ↔ NoneHolds (checks m (c .room) (c .act))
-  pub most : step m c .refusal ≤ 12
+  pub most : step m c .refusal ≤ greatest
   -- 1 to 6: the state is the state before, the reply's length 0
   pub early : 1 ≤ step m c .refusal → step m c .refusal ≤ 6 → (step m c .after ≡ m) × (step m c .reply ≡ [])
   -- 7 to 12: it differs at most in that port's permission, which has ended

@@ -80,9 +80,13 @@ modbusBody f = take (length f - 4) (drop 2 f)
 abbrev pub modbusBroadcast : ℕ
 modbusBroadcast = 0
 
--- bytes, then their CRC, low byte first
+-- a word as two bytes, the low one first
+abbrev pub lowFirst : ℕ → List ℕ
+lowFirst c = c % 256 ∷ c / 256 ∷ []
+
+-- bytes, then their CRC
 unfoldable pub withCrc : List ℕ → List ℕ
-withCrc bs = bs ++ crcOf bs % 256 ∷ crcOf bs / 256 ∷ []
+withCrc bs = bs ++ lowFirst (crcOf bs)
 
 abbrev pub modbusReply : ℕ → ℕ → List ℕ → List ℕ
 modbusReply address function body = withCrc (address ∷ function ∷ body)

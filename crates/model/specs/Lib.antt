@@ -3,6 +3,7 @@ pub mod Times
 pub mod Samples
 pub mod Frames
 pub mod Refusals
+pub mod Wire
 pub mod Counters
 pub mod Temperature
 pub mod Outputs

@@ -1,4 +1,4 @@
--- A Modbus frame, whatever the buffer: its function, the groups of registers, then the port's permission and the reply.
+-- A Modbus frame: what its function asks for, the groups of registers, and its wire.
 use Prim.Native.Nat.{ℕ, zero, suc, _+_, _*_, _/_, _%_, _^_}
 use mathlib.Core.Bool.{Bool, true, false, cond, not, _&&_, _||_}
 use mathlib.Core.List.{List, [], _∷_, map}
@@ -8,10 +8,11 @@ use Rattle.lists.specs.Tests.{within}
 use Rattle.lists.specs.Numbers.{number, wordAt}
 use Rattle.lists.specs.Chunks.{chunks}
 use Rattle.model.specs.declared.Module.{Module}
-use Rattle.model.specs.State.{withInputs, withOutputs, withThermostats, withModbus, withModes, withCounters, permit}
+use Rattle.model.specs.State.{withOutputs, withModbus, withCounters, withModes, withThermostats}
 use Rattle.model.specs.Samples.{inputStates}
 use Rattle.model.specs.Frames.{modbusTo, functionOf, modbusBody, modbusBroadcast, modbusReply, exceptionReply}
-use Rattle.model.specs.Refusals.{Request, accepting, notListed, refuse8, refuse9, refuse11, onPart, Done, judged, exceptionOf, Out, ifPasses, modbusFrameRefusal}
+use Rattle.model.specs.Refusals.{Request, accepting, refuse, notListed, onPart, reading, exceptionOf, crcWrong, modbusAddressWrong, modbusBroadcastWrong}
+use Rattle.model.specs.Wire.{Wire}
 use Rattle.model.specs.Outputs.{outputStates}
 use Rattle.model.specs.Temperature.{readingWords}
 use Rattle.model.specs.Registers.{permissionGroup, portGroup, counterGroup, deductionGroup, modeGroup, outputGroup, thermostatGroup, readingGroup, inGroup, readWords, readBits, portWords, outputWord, readThermostat, writePermission, writePort, writeCounters, writeDeductions, writeModes, writePulse, writeThermostat, writeCoils}
@@ -45,90 +46,84 @@ bitsFrom j (suc n) d = getD d (j / 8) 0 / 2 ^ (j % 8) % 2 ∷ bitsFrom (suc j) n
 -- Groups of registers -----------------------------------------------------------------------
 
 -- 9: no group there that the function serves
-abbrev pub noGroup : Module → Request Module
-noGroup m = refuse9 true (accepting m [])
+abbrev pub noGroup : {P : Type 0} → P → Request P
+noGroup p = refuse 9 true (accepting p [])
 
 -- 03: n registers from r on
-unfoldable pub registersRead : ℕ → ℕ → Module → Request Module
+unfoldable pub registersRead : ℕ → ℕ → Module → Request (Unit {0})
 registersRead r n m =
-    cond (inGroup portGroup r) (readWords portGroup (portWords (m .modbus)) r n m)
-    (cond (inGroup counterGroup r) (readWords counterGroup (m .inputs .counters) r n m)
-    (cond (inGroup modeGroup r) (readWords modeGroup (m .inputs .modes) r n m)
-    (cond (inGroup outputGroup r) (readWords outputGroup (map outputWord (m .outputs)) r n m)
-    (cond (inGroup thermostatGroup r) (readThermostat (m .thermostats) r n m)
-    (noGroup m)))))
+    cond (inGroup portGroup r) (readWords portGroup (portWords (m .modbus)) r n)
+    (cond (inGroup counterGroup r) (readWords counterGroup (m .inputs .counters) r n)
+    (cond (inGroup modeGroup r) (readWords modeGroup (m .settings .modes) r n)
+    (cond (inGroup outputGroup r) (readWords outputGroup (map outputWord (m .outputs)) r n)
+    (cond (inGroup thermostatGroup r) (readThermostat (m .settings .thermostats) r n)
+    (noGroup tt)))))
 
 -- 06 (a single value) and 10H: the values vs for the registers from r on
 unfoldable pub registersWritten : Bool → Bool → ℕ → List ℕ → Module → Request Module
 registersWritten permitted single r vs m =
-    let x = m .inputs in
     cond (inGroup permissionGroup r) (onPart (withModbus m) (writePermission single r vs (m .modbus)))
     (cond (inGroup portGroup r) (writePort permitted r vs m)
-    (cond (inGroup counterGroup r) (onPart (λ cs. withInputs m (withCounters x cs)) (writeCounters r vs (x .counters)))
-    (cond (inGroup deductionGroup r) (onPart (λ cs. withInputs m (withCounters x cs)) (writeDeductions r vs (x .counters)))
-    (cond (inGroup modeGroup r) (onPart (λ ms. withInputs m (withModes x ms)) (writeModes r vs (x .modes)))
-    (cond (inGroup outputGroup r) (onPart (withOutputs m) (writePulse (m .reading) (m .thermostats) r vs (m .outputs)))
-    (cond (inGroup thermostatGroup r) (onPart (withThermostats m) (writeThermostat r vs (m .thermostats)))
+    (cond (inGroup counterGroup r) (onPart (withCounters m) (writeCounters r vs (m .inputs .counters)))
+    (cond (inGroup deductionGroup r) (onPart (withCounters m) (writeDeductions r vs (m .inputs .counters)))
+    (cond (inGroup modeGroup r) (onPart (withModes m) (writeModes r vs (m .settings .modes)))
+    (cond (inGroup outputGroup r) (onPart (withOutputs m) (writePulse (m .reading) (m .settings .thermostats) r vs (m .outputs)))
+    (cond (inGroup thermostatGroup r) (onPart (withThermostats m) (writeThermostat r vs (m .settings .thermostats)))
     (noGroup m)))))))
 
 -- Functions ---------------------------------------------------------------------------------
 
 -- the request answered with the given body, as the public documents echo a write
 abbrev pub answering : List ℕ → Request Module → Request Module
-answering b q = record { unlisted = q .unlisted; lengthWrong = q .lengthWrong; rangeWrong = q .rangeWrong; notPermitted = q .notPermitted; valueWrong = q .valueWrong; held = q .held; after = q .after; reply = b }
+answering b q = record { holds = q .holds; after = q .after; reply = b }
 
 -- 05: one coil, on by FF00, off by 0000; any other value is refused 11
 unfoldable pub coilWritten : List ℕ → Module → Request Module
 coilWritten b m =
-    refuse8 (not (eqb (length b) 4))
-    (refuse11 (not (eqb (secondOf b) 0xFF00 || eqb (secondOf b) 0x0000))
-    (answering b (onPart (withOutputs m) (writeCoils (m .reading) (m .thermostats) (startOf b) (secondOf b / 0xFF00 ∷ []) (m .outputs)))))
+    refuse 8 (not (eqb (length b) 4))
+    (refuse 11 (not (eqb (secondOf b) 0xFF00 || eqb (secondOf b) 0x0000))
+    (answering b (onPart (withOutputs m) (writeCoils (m .reading) (m .settings .thermostats) (startOf b) (secondOf b / 0xFF00 ∷ []) (m .outputs)))))
 
 unfoldable pub registerWritten : Bool → List ℕ → Module → Request Module
 registerWritten permitted b m =
-    refuse8 (not (eqb (length b) 4)) (answering b (registersWritten permitted true (startOf b) (secondOf b ∷ []) m))
+    refuse 8 (not (eqb (length b) 4)) (answering b (registersWritten permitted true (startOf b) (secondOf b ∷ []) m))
 
 -- 0F: a bit for each coil; what the last byte holds beyond them has no effect
 unfoldable pub coilsWritten : List ℕ → Module → Request Module
 coilsWritten b m =
-    refuse8 (countWrong 1968 ((secondOf b + 7) / 8) b)
-    (answering (take 4 b) (onPart (withOutputs m) (writeCoils (m .reading) (m .thermostats) (startOf b) (bitsFrom 0 (secondOf b) (drop 5 b)) (m .outputs))))
+    refuse 8 (countWrong 1968 ((secondOf b + 7) / 8) b)
+    (answering (take 4 b) (onPart (withOutputs m) (writeCoils (m .reading) (m .settings .thermostats) (startOf b) (bitsFrom 0 (secondOf b) (drop 5 b)) (m .outputs))))
 
 unfoldable pub severalWritten : Bool → List ℕ → Module → Request Module
 severalWritten permitted b m =
-    refuse8 (countWrong 123 (2 * secondOf b) b)
+    refuse 8 (countWrong 123 (2 * secondOf b) b)
     (answering (take 4 b) (registersWritten permitted false (startOf b) (words (drop 5 b)) m))
 
 -- 01, Registers: what each function reads or writes, and how many at most; the coils are the outputs, the input registers the reading
 unfoldable pub modbusAsked : Bool → ℕ → List ℕ → Module → Request Module
 modbusAsked permitted fn b m =
-    cond (eqb fn 0x01) (refuse8 (quantityWrong 2000 b) (readBits (outputStates (m .outputs)) (startOf b) (secondOf b) m))
-    (cond (eqb fn 0x02) (refuse8 (quantityWrong 2000 b) (readBits (inputStates (m .inputs)) (startOf b) (secondOf b) m))
-    (cond (eqb fn 0x03) (refuse8 (quantityWrong 125 b) (registersRead (startOf b) (secondOf b) m))
-    (cond (eqb fn 0x04) (refuse8 (quantityWrong 125 b) (readWords readingGroup (readingWords (m .reading)) (startOf b) (secondOf b) m))
+    cond (eqb fn 0x01) (reading m (refuse 8 (quantityWrong 2000 b) (readBits (outputStates (m .outputs)) (startOf b) (secondOf b))))
+    (cond (eqb fn 0x02) (reading m (refuse 8 (quantityWrong 2000 b) (readBits (inputStates (m .inputs)) (startOf b) (secondOf b))))
+    (cond (eqb fn 0x03) (reading m (refuse 8 (quantityWrong 125 b) (registersRead (startOf b) (secondOf b) m)))
+    (cond (eqb fn 0x04) (reading m (refuse 8 (quantityWrong 125 b) (readWords readingGroup (readingWords (m .reading)) (startOf b) (secondOf b))))
     (cond (eqb fn 0x05) (coilWritten b m)
     (cond (eqb fn 0x06) (registerWritten permitted b m)
     (cond (eqb fn 0x0F) (coilsWritten b m)
     (cond (eqb fn 0x10) (severalWritten permitted b m)
     (notListed m))))))))
 
--- the request uses the port's permission up
-abbrev pub modbusUsed : Module → Module
-modbusUsed m = withModbus m (permit false (m .modbus))
-
-unfoldable pub modbusAnswered : ℕ → ℕ → ℕ → Done Module → Out
-modbusAnswered own to fn o = record {
-  refusal = o .refusal;
-  after = o .part;
-  reply = cond (eqb to modbusBroadcast) []
-      (cond (eqb (o .refusal) 0) (modbusReply own fn (o .reply)) (exceptionReply own fn (exceptionOf (o .refusal))));
+-- no byte of its shape is fixed; an exception tells that a request was refused
+abbrev pub modbusWire : Wire
+modbusWire = record {
+  port = λ m. m .modbus;
+  withPort = withModbus;
+  least = 4;
+  shapeWrong = λ f. false;
+  checkWrong = crcWrong;
+  addressee = λ f. modbusTo f;
+  addressWrong = modbusAddressWrong;
+  broadcastWrong = λ f. modbusBroadcastWrong (modbusTo f) (functionOf f);
+  broadcast = modbusBroadcast;
+  asked = λ permitted f m. modbusAsked permitted (functionOf f) (modbusBody f) m;
+  replied = λ own f o. cond (eqb (o .refusal) 0) (modbusReply own (functionOf f) (o .reply)) (exceptionReply own (functionOf f) (exceptionOf (o .refusal)));
 }
-
--- a frame that passes 2 to 6
-unfoldable pub modbusActed : List ℕ → Module → Out
-modbusActed f m =
-    modbusAnswered (m .modbus .address) (modbusTo f) (functionOf f)
-    (judged (modbusUsed m) (modbusAsked (m .modbus .permitted) (functionOf f) (modbusBody f) (modbusUsed m)))
-
-unfoldable pub modbusHandled : List ℕ → Module → Out
-modbusHandled f m = ifPasses (modbusFrameRefusal (m .modbus .address) f) m (modbusActed f m)

@@ -12,7 +12,7 @@ use Rattle.model.specs.declared.Inputs.{Inputs}
 use Rattle.model.specs.State.{notice}
 use Rattle.model.specs.Samples.{inputStates}
 use Rattle.model.specs.Frames.{spinelReply}
-use Rattle.model.specs.Refusals.{Request, accepting, refuse8, refuse11}
+use Rattle.model.specs.Refusals.{Request, accepting, telling, refuse}
 use Rattle.model.specs.Counters.{someData}
 use Rattle.model.specs.Outputs.{statesShown}
 
@@ -28,13 +28,13 @@ maskGiven d = cond (eqb (length d) 1) 0xFFFF (wordAt d 1)
 -- mask, but is refused 11 where a mask follows it; so is every other first byte
 unfoldable pub setNotice : ℕ → List ℕ → Notice → Request Notice
 setNotice signature d n =
-    refuse8 (not (eqb (length d) 1 || eqb (length d) 3))
-    (refuse11 (cond (eqb (getD d 0 0) 0x01) (isOn n) (not (eqb (getD d 0 0) 0x00 && eqb (length d) 1)))
+    refuse 8 (not (eqb (length d) 1 || eqb (length d) 3))
+    (refuse 11 (cond (eqb (getD d 0 0) 0x01) (isOn n) (not (eqb (getD d 0 0) 0x00 && eqb (length d) 1)))
     (accepting (cond (eqb (getD d 0 0) 0x01) (notice 0x61 (maskGiven d) signature) (notice 0 0 (n .signature))) []))
 
 -- 11H: the format byte as it is stored, then the mask
-unfoldable pub readNotice : {P : Type 0} → List ℕ → Notice → P → Request P
-readNotice d n p = refuse8 (someData d) (accepting p (n .format ∷ bytes 2 (n .mask)))
+unfoldable pub readNotice : List ℕ → Notice → Request (Unit {0})
+readNotice d n = refuse 8 (someData d) (telling (n .format ∷ bytes 2 (n .mask)))
 
 -- while on, an edge of any input that the mask picks; the input's mode has no part in it
 unfoldable pub noticed : Notice → List Bool → Bool

@@ -15,7 +15,7 @@ use Rattle.model.specs.declared.Thermostat.{Thermostat}
 use Rattle.model.specs.declared.Reading.{Reading}
 use Rattle.model.specs.State.{output, halfSeconds, preset, freshOutput, freshPreset, freshThermostat}
 use Rattle.model.specs.Times.{halfSecondSamples}
-use Rattle.model.specs.Refusals.{Request, accepting, refuse8, refuse11, refuse12}
+use Rattle.model.specs.Refusals.{Request, accepting, telling, refuse}
 use Rattle.model.specs.Counters.{isNumber, itemsOf, someData}
 use Rattle.model.specs.Temperature.{active, freeAt}
 
@@ -55,22 +55,22 @@ startPulse time os e = set os (e .number - 1) (output (turnsOn e) (halfSecondSam
 -- the outputs of some entries, none held, after `act`
 unfoldable pub actOn : (List Output → Entry → List Output) → Reading → List Thermostat → List Entry → List Output → Request (List Output)
 actOn act r hs es os =
-    refuse11 (not (all numberFits es))
-    (refuse12 (not (all (λ e. freeAt r hs (e .number)) es))
+    refuse 11 (not (all numberFits es))
+    (refuse 12 (not (all (λ e. freeAt r hs (e .number)) es))
     (accepting (foldl act os es) []))
 
 -- 20H: a set byte for each output
 unfoldable pub setOutputs : Reading → List Thermostat → List ℕ → List Output → Request (List Output)
-setOutputs r hs d os = refuse8 (not (itemsOf 1 d)) (actOn setOutput r hs (map setByte d) os)
+setOutputs r hs d os = refuse 8 (not (itemsOf 1 d)) (actOn setOutput r hs (map setByte d) os)
 
 -- pulses of one time; 0 is refused 11
 unfoldable pub pulseOutputs : HalfSeconds → Reading → List Thermostat → List Entry → List Output → Request (List Output)
 pulseOutputs time r hs es os =
-    refuse11 (not (within 1 255 (time .0))) (actOn (startPulse time) r hs es os)
+    refuse 11 (not (within 1 255 (time .0))) (actOn (startPulse time) r hs es os)
 
 -- 23H: a byte of time for them all, then a set byte for each output
 unfoldable pub setPulses : Reading → List Thermostat → List ℕ → List Output → Request (List Output)
-setPulses r hs d os = refuse8 (not (itemsOf 1 (drop 1 d))) (pulseOutputs (halfSeconds (getD d 0 0)) r hs (map setByte (drop 1 d)) os)
+setPulses r hs d os = refuse 8 (not (itemsOf 1 (drop 1 d))) (pulseOutputs (halfSeconds (getD d 0 0)) r hs (map setByte (drop 1 d)) os)
 
 -- Presets -----------------------------------------------------------------------------
 
@@ -86,7 +86,7 @@ setPreset ps c = set ps (getD c 0 0 - 1) (preset (getD c 1 0) (getD c 2 0))
 
 -- 26H: three bytes for each preset
 unfoldable pub setPresets : List ℕ → List Preset → Request (List Preset)
-setPresets d ps = refuse8 (not (itemsOf 3 d)) (refuse11 (not (all presetSettable (chunks 3 d))) (accepting (foldl setPreset ps (chunks 3 d)) []))
+setPresets d ps = refuse 8 (not (itemsOf 3 d)) (refuse 11 (not (all presetSettable (chunks 3 d))) (accepting (foldl setPreset ps (chunks 3 d)) []))
 
 abbrev pub presetOf : List Preset → ℕ → Preset
 presetOf ps n = getD ps (n - 1) freshPreset
@@ -102,9 +102,9 @@ presetReady ps n = isNumber n && not (eqb (presetOf ps n .kind) 0)
 
 unfoldable pub startPresets : List Preset → Reading → List Thermostat → List ℕ → List Output → Request (List Output)
 startPresets ps r hs d os =
-    refuse8 (not (itemsOf 1 d))
-    (refuse11 (not (all (presetReady ps) d))
-    (refuse12 (not (all (freeAt r hs) d))
+    refuse 8 (not (itemsOf 1 d))
+    (refuse 11 (not (all (presetReady ps) d))
+    (refuse 12 (not (all (freeAt r hs) d))
     (accepting (foldl (startPreset ps) os d) [])))
 
 -- Reading outputs -----------------------------------------------------------------------
@@ -132,5 +132,5 @@ outputStates os = map (λ (o : Output). o .on) os
 abbrev pub statesShown : List Bool → List ℕ
 statesShown bs = bytes 2 (bitsNumber bs)
 
-unfoldable pub readStates : {P : Type 0} → List ℕ → List Bool → P → Request P
-readStates d bs p = refuse8 (someData d) (accepting p (statesShown bs))
+unfoldable pub readStates : List ℕ → List Bool → Request (Unit {0})
+readStates d bs = refuse 8 (someData d) (telling (statesShown bs))

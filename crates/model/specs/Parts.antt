@@ -1,13 +1,12 @@
 -- What each call may change: a line for each instruction, function and group of registers. A line gives the state without the parts
 -- that may change; what is left of the state must be as it was before the call.
 use Prim.Native.Nat.{ℕ}
-use mathlib.Core.Bool.{cond, false, _||_}
+use mathlib.Core.Bool.{cond, false}
 use mathlib.Core.List.{List, [], map}
 use mathlib.Core.Path.{_≡_}
 use lib.Dec.{eqb}
 use Rattle.lists.specs.Tests.{within}
 use Rattle.model.specs.declared.Line.{Line}
-use Rattle.model.specs.declared.Inputs.{Inputs}
 use Rattle.model.specs.declared.Port.{Port}
 use Rattle.model.specs.declared.Reading.the-variants.{Fault}
 use Rattle.model.specs.declared.Module.{Module}
@@ -19,25 +18,25 @@ use Rattle.model.specs.Calls.{step}
 
 -- the state without a part
 
-abbrev withLines : Inputs → List Line → Inputs
-withLines x ls = record { lines = ls; modes = x .modes; counters = x .counters; sampling = x .sampling }
+abbrev withLines : Module → List Line → Module
+withLines m ls = withInputs m (record { lines = ls; counters = m .inputs .counters })
 
 -- stable states and runs
 abbrev pub withoutLines : Module → Module
-withoutLines m = withInputs m (withLines (m .inputs) [])
+withoutLines m = withLines m []
 
 -- runs alone
 abbrev pub withoutRuns : Module → Module
-withoutRuns m = withInputs m (withLines (m .inputs) (map (λ (y : Line). line (y .stable) 0) (m .inputs .lines)))
+withoutRuns m = withLines m (map (λ (y : Line). line (y .stable) 0) (m .inputs .lines))
 
 abbrev pub withoutModes : Module → Module
-withoutModes m = withInputs m (withModes (m .inputs) [])
+withoutModes m = withModes m []
 
 abbrev pub withoutCounters : Module → Module
-withoutCounters m = withInputs m (withCounters (m .inputs) [])
+withoutCounters m = withCounters m []
 
 abbrev pub withoutSampling : Module → Module
-withoutSampling m = withInputs m (withSampling (m .inputs) 0)
+withoutSampling m = withSampling m 0
 
 abbrev pub withoutOutputs : Module → Module
 withoutOutputs m = withOutputs m []

@@ -1,12 +1,12 @@
 -- 01, the twelve refusals, in the order of their checks: each condition by its name.
 use Prim.Native.Nat.{ℕ, zero, suc, _-_, _/_, _%_}
 use mathlib.Core.Bool.{Bool, true, false, cond, not, _&&_, _||_}
-use mathlib.Core.List.{List, []}
+use mathlib.Core.List.{List, [], _∷_}
 use lib.ListN.{length, getD, take}
 use lib.Dec.{ltb, eqb}
 use Rattle.lists.specs.Tests.{within}
 use Rattle.model.specs.declared.Module.{Module}
-use Rattle.model.specs.Frames.{sumOf, numOf, spinelTo, instructionOf, universal, spinelBroadcast, crcOf, modbusTo, functionOf, modbusBroadcast}
+use Rattle.model.specs.Frames.{sumOf, numOf, universal, spinelBroadcast, crcOf, modbusBroadcast}
 
 -- 1. the buffer could not take a frame of the greatest length, 256 bytes
 abbrev pub bufferShort : ℕ → Bool
@@ -28,10 +28,11 @@ shapeWrong f =
 unfoldable pub sumWrong : List ℕ → Bool
 sumWrong f = not (eqb (getD f (length f - 2) 0) (sumOf (take (length f - 2) f)))
 
+abbrev tells : ℕ → ℕ → ℕ → Bool
+tells low high c = eqb low (c % 256) && eqb high (c / 256)
+
 unfoldable pub crcWrong : List ℕ → Bool
-crcWrong f =
-    not (eqb (getD f (length f - 2) 0) (crcOf (take (length f - 2) f) % 256)
-    && eqb (getD f (length f - 1) 0) (crcOf (take (length f - 2) f) / 256))
+crcWrong f = not (tells (getD f (length f - 2) 0) (getD f (length f - 1) 0) (crcOf (take (length f - 2) f)))
 
 -- 5. meant for another module: neither to this port's address nor to one that all take for theirs; an own address equal to a special one,
 -- which no setting gives, means what the special one means
@@ -48,36 +49,19 @@ spinelBroadcastWrong to i = eqb to spinelBroadcast && not (eqb i 0x20 || (eqb i 
 unfoldable pub modbusBroadcastWrong : ℕ → ℕ → Bool
 modbusBroadcastWrong to fn = eqb to modbusBroadcast && not (eqb fn 0x05 || eqb fn 0x0F)
 
--- 2 to 6 of a frame for the port with address own: the first that holds, or 0
-unfoldable pub spinelFrameRefusal : ℕ → List ℕ → ℕ
-spinelFrameRefusal own f =
-    cond (frameLengthWrong 9 f) 2
-    (cond (shapeWrong f) 3
-    (cond (sumWrong f) 4
-    (cond (spinelAddressWrong own (spinelTo f)) 5
-    (cond (spinelBroadcastWrong (spinelTo f) (instructionOf f)) 6 0))))
+-- 7 to 12, in the order in which they are looked at:
+-- 7. a code that 01 gives no meaning
+-- 8. more or less data than the code takes, a byte count that does not fit, or a quantity that the function does not take
+-- 9. registers or coils outside the groups that the function serves, across the end of one, or none, too many or wrongly placed for theirs
+-- 10. configuring while the port is not permitted to; also E4H and E0H sent to the universal address
+-- 11. a number, mode, time or other value that its place does not take, or more to deduct than was counted
+-- 12. an output that its thermostat does not let go of now
+unfoldable pub checkingOrder : List ℕ
+checkingOrder = 7 ∷ 8 ∷ 9 ∷ 10 ∷ 11 ∷ 12 ∷ []
 
-unfoldable pub modbusFrameRefusal : ℕ → List ℕ → ℕ
-modbusFrameRefusal own f =
-    cond (frameLengthWrong 4 f) 2
-    (cond (crcWrong f) 4
-    (cond (modbusAddressWrong own (modbusTo f)) 5
-    (cond (modbusBroadcastWrong (modbusTo f) (functionOf f)) 6 0)))
-
--- A request that has passed 1 to 6, on the part P of the state that it may change: which of 7 to 12 hold, and what it comes to where none does.
+-- A request that has passed 1 to 6, on the part P of the state that it may change: which of these hold, and what it comes to where none does.
 pub record Request (P : Type 0) : Type 0 where
-  -- 7. a code that 01 gives no meaning
-  pub unlisted : Bool
-  -- 8. more or less data than the code takes, a byte count that does not fit, or a quantity that the function does not take
-  pub lengthWrong : Bool
-  -- 9. registers or coils outside the groups that the function serves, across the end of one, or too many or wrongly placed for theirs
-  pub rangeWrong : Bool
-  -- 10. configuring while the port is not permitted to; also E4H and E0H sent to the universal address
-  pub notPermitted : Bool
-  -- 11. a number, mode, time or other value that its place does not take, or more to deduct than was counted
-  pub valueWrong : Bool
-  -- 12. an output that its thermostat does not let go of now
-  pub held : Bool
+  pub holds : ℕ → Bool
   -- the part after it
   pub after : P
   -- the reply's data or body
@@ -85,31 +69,31 @@ pub record Request (P : Type 0) : Type 0 where
 
 -- what nothing stands against
 abbrev pub accepting : {P : Type 0} → P → List ℕ → Request P
-accepting p d = record { unlisted = false; lengthWrong = false; rangeWrong = false; notPermitted = false; valueWrong = false; held = false; after = p; reply = d }
+accepting p d = record { holds = λ n. false; after = p; reply = d }
+
+-- a condition that holds by h, or by b too where this is the number meant
+abbrev pub orAlso : Bool → Bool → Bool → Bool
+orAlso true b h = h || b
+orAlso false b h = h
+
+-- the same request, refused by n also where the test holds
+abbrev pub refuse : {P : Type 0} → ℕ → Bool → Request P → Request P
+refuse n b q = record { holds = λ k. orAlso (eqb k n) b (q .holds k); after = q .after; reply = q .reply }
 
 abbrev pub notListed : {P : Type 0} → P → Request P
-notListed p = record { unlisted = true; lengthWrong = false; rangeWrong = false; notPermitted = false; valueWrong = false; held = false; after = p; reply = [] }
-
--- the same request, refused by 8, .., 12 also where the test holds
-
-abbrev pub refuse8 : {P : Type 0} → Bool → Request P → Request P
-refuse8 b q = record { unlisted = q .unlisted; lengthWrong = q .lengthWrong || b; rangeWrong = q .rangeWrong; notPermitted = q .notPermitted; valueWrong = q .valueWrong; held = q .held; after = q .after; reply = q .reply }
-
-abbrev pub refuse9 : {P : Type 0} → Bool → Request P → Request P
-refuse9 b q = record { unlisted = q .unlisted; lengthWrong = q .lengthWrong; rangeWrong = q .rangeWrong || b; notPermitted = q .notPermitted; valueWrong = q .valueWrong; held = q .held; after = q .after; reply = q .reply }
-
-abbrev pub refuse10 : {P : Type 0} → Bool → Request P → Request P
-refuse10 b q = record { unlisted = q .unlisted; lengthWrong = q .lengthWrong; rangeWrong = q .rangeWrong; notPermitted = q .notPermitted || b; valueWrong = q .valueWrong; held = q .held; after = q .after; reply = q .reply }
-
-abbrev pub refuse11 : {P : Type 0} → Bool → Request P → Request P
-refuse11 b q = record { unlisted = q .unlisted; lengthWrong = q .lengthWrong; rangeWrong = q .rangeWrong; notPermitted = q .notPermitted; valueWrong = q .valueWrong || b; held = q .held; after = q .after; reply = q .reply }
-
-abbrev pub refuse12 : {P : Type 0} → Bool → Request P → Request P
-refuse12 b q = record { unlisted = q .unlisted; lengthWrong = q .lengthWrong; rangeWrong = q .rangeWrong; notPermitted = q .notPermitted; valueWrong = q .valueWrong; held = q .held || b; after = q .after; reply = q .reply }
+notListed p = refuse 7 true (accepting p [])
 
 -- a request on a part, as one on the whole
 abbrev pub onPart : {P Q : Type 0} → (P → Q) → Request P → Request Q
-onPart put q = record { unlisted = q .unlisted; lengthWrong = q .lengthWrong; rangeWrong = q .rangeWrong; notPermitted = q .notPermitted; valueWrong = q .valueWrong; held = q .held; after = put (q .after); reply = q .reply }
+onPart put q = record { holds = q .holds; after = put (q .after); reply = q .reply }
+
+-- one that changes no part, as one on the whole
+abbrev pub reading : {Q : Type 0} → Q → Request (Unit {0}) → Request Q
+reading m q = onPart (λ _. m) q
+
+-- such a one: these data are its answer
+abbrev pub telling : List ℕ → Request (Unit {0})
+telling d = accepting tt d
 
 -- the answer to a request: the refusal's number or 0, the part after, the reply's data
 pub record Done (P : Type 0) : Type 0 where
@@ -124,16 +108,25 @@ refused n p = record { refusal = n; part = p; reply = [] }
 abbrev pub doneAt : {P Q : Type 0} → (P → Q) → Done P → Done Q
 doneAt put o = record { refusal = o .refusal; part = put (o .part); reply = o .reply }
 
--- the first of 7 to 12 that holds; the part is then as before, and the reply without data
+-- the first of some numbers whose condition holds, or 0
+unfoldable pub firstHolding : List ℕ → (ℕ → Bool) → ℕ
+firstHolding [] holds = 0
+firstHolding (n ∷ ns) holds = cond (holds n) n (firstHolding ns holds)
+
+-- what a request is refused by, or 0
+unfoldable pub refusalOf : {P : Type 0} → Request P → ℕ
+unfolding firstHolding checkingOrder
+refusalOf q = firstHolding checkingOrder (q .holds)
+
+-- a request refused by a number leaves the part as it was; not refused (0), it does what it asks for
+abbrev pub decided : {P : Type 0} → ℕ → P → P → List ℕ → Done P
+decided zero before after reply = record { refusal = 0; part = after; reply = reply }
+decided (suc n) before after reply = refused (suc n) before
+
+-- naming this on an `unfolding` line opens the order too
 unfoldable pub judged : {P : Type 0} → P → Request P → Done P
-judged before q =
-    cond (q .unlisted) (refused 7 before)
-    (cond (q .lengthWrong) (refused 8 before)
-    (cond (q .rangeWrong) (refused 9 before)
-    (cond (q .notPermitted) (refused 10 before)
-    (cond (q .valueWrong) (refused 11 before)
-    (cond (q .held) (refused 12 before)
-    (record { refusal = 0; part = q .after; reply = q .reply }))))))
+unfolding refusalOf
+judged before q = decided (refusalOf q) before (q .after) (q .reply)
 
 -- the ACK that tells a refusal; 0, accepted, is told by 00
 unfoldable pub ackOf : ℕ → ℕ

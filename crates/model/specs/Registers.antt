@@ -16,7 +16,7 @@ use Rattle.model.specs.declared.Port.{Port}
 use Rattle.model.specs.declared.Module.{Module}
 use Rattle.model.specs.State.{halfSeconds, thermostat, freshThermostat, port, permit, withModbus}
 use Rattle.model.specs.Samples.{places}
-use Rattle.model.specs.Refusals.{Request, accepting, refuse9, refuse10, refuse11}
+use Rattle.model.specs.Refusals.{Request, accepting, telling, refuse}
 use Rattle.model.specs.Counters.{mostItems, reset, deduct, setModes}
 use Rattle.model.specs.Outputs.{setOutput, actOn, pulseOutputs, remaining}
 use Rattle.model.specs.Temperature.{signedOf, patternOf, thermostatFits}
@@ -62,9 +62,9 @@ bitGroup = group 0 places
 abbrev pub inGroup : Group → ℕ → Bool
 inGroup g r = within (g .first) (g .first + g .count - 1) r
 
--- 9: n registers from r on do not all lie in the group
+-- 9: n registers from r on are none, or do not all lie in the group
 abbrev pub outside : Group → ℕ → ℕ → Bool
-outside g r n = ltb r (g .first) || ltb (g .first + g .count) (r + n)
+outside g r n = eqb n 0 || (ltb r (g .first) || ltb (g .first + g .count) (r + n))
 
 -- the number of the input or output that register r is for
 abbrev pub numberAt : Group → ℕ → ℕ
@@ -73,20 +73,20 @@ numberAt g r = r + 1 - g .first
 -- Reading ------------------------------------------------------------------------------
 
 -- n registers from r on, of a group that shows these words: a byte count, then two bytes each
-unfoldable pub readWords : {P : Type 0} → Group → List ℕ → ℕ → ℕ → P → Request P
-readWords g words r n p =
-    refuse9 (outside g r n)
-    (accepting p (2 * n ∷ flatMap (bytes 2) (take n (drop (r - g .first) words))))
+unfoldable pub readWords : Group → List ℕ → ℕ → ℕ → Request (Unit {0})
+readWords g words r n =
+    refuse 9 (outside g r n)
+    (telling (2 * n ∷ flatMap (bytes 2) (take n (drop (r - g .first) words))))
 
 -- bits as bytes, eight to a byte, the lowest first, spare bits 0
 unfoldable pub packed : List Bool → List ℕ
 packed bs = map bitsNumber (chunksOf 8 ((length bs + 7) / 8) bs)
 
 -- n of the sixteen coils or inputs from r on
-unfoldable pub readBits : {P : Type 0} → List Bool → ℕ → ℕ → P → Request P
-readBits bs r n p =
-    refuse9 (outside bitGroup r n)
-    (accepting p ((n + 7) / 8 ∷ packed (take n (drop r bs))))
+unfoldable pub readBits : List Bool → ℕ → ℕ → Request (Unit {0})
+readBits bs r n =
+    refuse 9 (outside bitGroup r n)
+    (telling ((n + 7) / 8 ∷ packed (take n (drop r bs))))
 
 -- 1 and 2: the port's address, its speed code
 abbrev pub portWords : Port → List ℕ
@@ -112,18 +112,18 @@ noThermostat r n = outside thermostatGroup r n || not (fourAligned r n)
 abbrev pub placeOf : ℕ → ℕ
 placeOf r = (r - thermostatGroup .first) / 4
 
-unfoldable pub readThermostat : {P : Type 0} → List Thermostat → ℕ → ℕ → P → Request P
-readThermostat hs r n p =
-    refuse9 (noThermostat r n)
-    (accepting p (2 * n ∷ flatMap (bytes 2) (thermostatWords (getD hs (placeOf r) freshThermostat))))
+unfoldable pub readThermostat : List Thermostat → ℕ → ℕ → Request (Unit {0})
+readThermostat hs r n =
+    refuse 9 (noThermostat r n)
+    (telling (2 * n ∷ flatMap (bytes 2) (thermostatWords (getD hs (placeOf r) freshThermostat))))
 
 -- Writing: the values vs for the registers from r on ----------------------------------------
 
 -- 0: a single write of 00FF permits the port's next request; by 10H it is refused 9, with another value 11
 unfoldable pub writePermission : Bool → ℕ → List ℕ → Port → Request Port
 writePermission single r vs p =
-    refuse9 (outside permissionGroup r (length vs) || not single)
-    (refuse11 (not (eqb (getD vs 0 0) 0x00FF))
+    refuse 9 (outside permissionGroup r (length vs) || not single)
+    (refuse 11 (not (eqb (getD vs 0 0) 0x00FF))
     (accepting (permit true p) []))
 
 -- register 1 takes the addresses that Modbus has for single modules, register 2 the speed codes from 3 to 10
@@ -136,9 +136,9 @@ setPortField p e = cond (eqb (e .number) 1) (port (e .value) (p .speed) (p .perm
 -- 1 and 2: with a permission only; a reset follows, and the reply still bears the address from before
 unfoldable pub writePort : Bool → ℕ → List ℕ → Module → Request Module
 writePort permitted r vs m =
-    refuse9 (outside portGroup r (length vs))
-    (refuse10 (not permitted)
-    (refuse11 (not (all portSettable (numbered r vs)))
+    refuse 9 (outside portGroup r (length vs))
+    (refuse 10 (not permitted)
+    (refuse 11 (not (all portSettable (numbered r vs)))
     (accepting (reset (withModbus m (foldl setPortField (m .modbus) (numbered r vs)))) [])))
 
 -- 100 to 115: a 0 clears the counter; nothing else can be put there
@@ -151,25 +151,25 @@ clearOne cs e = set cs (e .number - 1) 0
 unfoldable pub writeCounters : ℕ → List ℕ → List ℕ → Request (List ℕ)
 writeCounters r vs cs =
     let es = numbered (numberAt counterGroup r) vs in
-    refuse9 (outside counterGroup r (length vs)) (refuse11 (not (all isZero es)) (accepting (foldl clearOne cs es) []))
+    refuse 9 (outside counterGroup r (length vs)) (refuse 11 (not (all isZero es)) (accepting (foldl clearOne cs es) []))
 
 -- 200 to 215: amounts to deduct, as by 61H and at most as many; a read finds no group there
 unfoldable pub writeDeductions : ℕ → List ℕ → List ℕ → Request (List ℕ)
 writeDeductions r vs cs =
-    refuse9 (outside deductionGroup r (length vs) || ltb mostItems (length vs))
+    refuse 9 (outside deductionGroup r (length vs) || ltb mostItems (length vs))
     (deduct (numbered (numberAt deductionGroup r) vs) cs)
 
 -- 300 to 315: modes
 unfoldable pub writeModes : ℕ → List ℕ → List ℕ → Request (List ℕ)
-writeModes r vs ms = refuse9 (outside modeGroup r (length vs)) (setModes (numbered (numberAt modeGroup r) vs) ms)
+writeModes r vs ms = refuse 9 (outside modeGroup r (length vs)) (setModes (numbered (numberAt modeGroup r) vs) ms)
 
 -- 500 to 515: a pulse on a single output; the high byte, FF or 00, tells its first state, the low byte its time
 unfoldable pub writePulse : Reading → List Thermostat → ℕ → List ℕ → List Output → Request (List Output)
 writePulse r hs a vs os =
     let v = getD vs 0 0 in
     let es = entry (numberAt outputGroup a) (v / 0xFF00) ∷ [] in
-    refuse9 (outside outputGroup a (length vs) || not (eqb (length vs) 1))
-    (refuse11 (not (eqb (v / 256) 0xFF || eqb (v / 256) 0x00))
+    refuse 9 (outside outputGroup a (length vs) || not (eqb (length vs) 1))
+    (refuse 11 (not (eqb (v / 256) 0xFF || eqb (v / 256) 0x00))
     (pulseOutputs (halfSeconds (v % 256)) r hs es os))
 
 -- 600 + 4 × k: one thermostat by its four registers
@@ -178,11 +178,11 @@ wordsThermostat vs = thermostat (getD vs 0 0) (signedOf (getD vs 1 0)) (signedOf
 
 unfoldable pub writeThermostat : ℕ → List ℕ → List Thermostat → Request (List Thermostat)
 writeThermostat r vs hs =
-    refuse9 (noThermostat r (length vs))
-    (refuse11 (not (leb (getD vs 0 0) 0xFF && thermostatFits (wordsThermostat vs)))
+    refuse 9 (noThermostat r (length vs))
+    (refuse 11 (not (leb (getD vs 0 0) 0xFF && thermostatFits (wordsThermostat vs)))
     (accepting (set hs (placeOf r) (wordsThermostat vs)) []))
 
 -- coils: bit j of the bytes is for output a + 1 + j; 05 has a single bit --------------------------------
 
 unfoldable pub writeCoils : Reading → List Thermostat → ℕ → List ℕ → List Output → Request (List Output)
-writeCoils r hs a bits os = refuse9 (outside bitGroup a (length bits)) (actOn setOutput r hs (numbered (numberAt bitGroup a) bits) os)
+writeCoils r hs a bits os = refuse 9 (outside bitGroup a (length bits)) (actOn setOutput r hs (numbered (numberAt bitGroup a) bits) os)

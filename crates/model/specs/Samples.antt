@@ -8,6 +8,7 @@ use Rattle.lists.specs.Mapi.{mapi}
 use Rattle.lists.specs.Numbers.{bitAt}
 use Rattle.model.specs.declared.Line.{Line}
 use Rattle.model.specs.declared.Inputs.{Inputs}
+use Rattle.model.specs.declared.Settings.{Settings}
 use Rattle.model.specs.State.{line, freshLine}
 
 -- the number of inputs, and of outputs
@@ -63,11 +64,11 @@ unfoldable pub countersSampled : List ℕ → List Line → List Line → List �
 countersSampled modes was now cs =
     mapi (λ i c. counted (selectedEdge (getD modes i 0) (getD was i freshLine) (getD now i freshLine)) c) cs
 
--- inputs, then counters
-unfoldable pub inputsSampled : ℕ → Inputs → Inputs
-inputsSampled bits x =
-    let now = linesSampled (x .sampling) bits (x .lines) in
-    record { lines = now; modes = x .modes; counters = countersSampled (x .modes) (x .lines) now (x .counters); sampling = x .sampling }
+-- inputs, then counters; the modes and the sampling number are settings, and stay
+unfoldable pub inputsSampled : ℕ → Settings → Inputs → Inputs
+inputsSampled bits s x =
+    let now = linesSampled (s .sampling) bits (x .lines) in
+    record { lines = now; counters = countersSampled (s .modes) (x .lines) now (x .counters) }
 
 -- what every read of an input shows: its stable state, never the bit last sampled
 abbrev pub inputStates : Inputs → List Bool

@@ -14,6 +14,7 @@ use Rattle.model.specs.declared.Thermostat.{Thermostat}
 use Rattle.model.specs.declared.Reading.{Reading}
 use Rattle.model.specs.declared.Reading.the-variants.{Fault}
 use Rattle.model.specs.declared.Notice.{Notice}
+use Rattle.model.specs.declared.Settings.{Settings}
 use Rattle.model.specs.declared.Port.{Port}
 use Rattle.model.specs.declared.Module.{Module}
 
@@ -58,54 +59,61 @@ freshThermostat = thermostat 0 (pos 0) (pos 0) 0 0
 -- fresh (01): nothing is on, counted, set or read yet; the sampling number is 20, each port has the address 31H and the speed code 6
 unfoldable pub freshModule : Module
 freshModule = record {
-  inputs = record { lines = replicate 16 freshLine; modes = replicate 16 0; counters = replicate 16 0; sampling = 20 };
+  inputs = record { lines = replicate 16 freshLine; counters = replicate 16 0 };
   outputs = replicate 16 freshOutput;
-  presets = replicate 16 freshPreset;
-  thermostats = replicate 16 freshThermostat;
+  settings = record {
+    modes = replicate 16 0;
+    sampling = 20;
+    presets = replicate 16 freshPreset;
+    thermostats = replicate 16 freshThermostat;
+    notice = notice 0 0 0;
+  };
   reading = Fault;
   last = Fault;
-  notice = notice 0 0 0;
   spinel = port 0x31 6 false;
   modbus = port 0x31 6 false;
 }
 
--- one part of the inputs put in place
-
-abbrev pub withModes : Inputs → List ℕ → Inputs
-withModes x ms = record { lines = x .lines; modes = ms; counters = x .counters; sampling = x .sampling }
-
-abbrev pub withCounters : Inputs → List ℕ → Inputs
-withCounters x cs = record { lines = x .lines; modes = x .modes; counters = cs; sampling = x .sampling }
-
-abbrev pub withSampling : Inputs → ℕ → Inputs
-withSampling x n = record { lines = x .lines; modes = x .modes; counters = x .counters; sampling = n }
-
 -- one part of the module put in place
 
 abbrev pub withInputs : Module → Inputs → Module
-withInputs m x = record { inputs = x; outputs = m .outputs; presets = m .presets; thermostats = m .thermostats; reading = m .reading; last = m .last; notice = m .notice; spinel = m .spinel; modbus = m .modbus }
+withInputs m x = record { inputs = x; outputs = m .outputs; settings = m .settings; reading = m .reading; last = m .last; spinel = m .spinel; modbus = m .modbus }
 
 abbrev pub withOutputs : Module → List Output → Module
-withOutputs m o = record { inputs = m .inputs; outputs = o; presets = m .presets; thermostats = m .thermostats; reading = m .reading; last = m .last; notice = m .notice; spinel = m .spinel; modbus = m .modbus }
+withOutputs m o = record { inputs = m .inputs; outputs = o; settings = m .settings; reading = m .reading; last = m .last; spinel = m .spinel; modbus = m .modbus }
 
-abbrev pub withPresets : Module → List Preset → Module
-withPresets m p = record { inputs = m .inputs; outputs = m .outputs; presets = p; thermostats = m .thermostats; reading = m .reading; last = m .last; notice = m .notice; spinel = m .spinel; modbus = m .modbus }
-
-abbrev pub withThermostats : Module → List Thermostat → Module
-withThermostats m h = record { inputs = m .inputs; outputs = m .outputs; presets = m .presets; thermostats = h; reading = m .reading; last = m .last; notice = m .notice; spinel = m .spinel; modbus = m .modbus }
+abbrev pub withSettings : Module → Settings → Module
+withSettings m s = record { inputs = m .inputs; outputs = m .outputs; settings = s; reading = m .reading; last = m .last; spinel = m .spinel; modbus = m .modbus }
 
 -- what a temperature sample changes
 abbrev pub withReading : Module → List Output → Reading → Reading → Module
-withReading m o r l = record { inputs = m .inputs; outputs = o; presets = m .presets; thermostats = m .thermostats; reading = r; last = l; notice = m .notice; spinel = m .spinel; modbus = m .modbus }
-
-abbrev pub withNotice : Module → Notice → Module
-withNotice m n = record { inputs = m .inputs; outputs = m .outputs; presets = m .presets; thermostats = m .thermostats; reading = m .reading; last = m .last; notice = n; spinel = m .spinel; modbus = m .modbus }
+withReading m o r l = record { inputs = m .inputs; outputs = o; settings = m .settings; reading = r; last = l; spinel = m .spinel; modbus = m .modbus }
 
 abbrev pub withSpinel : Module → Port → Module
-withSpinel m p = record { inputs = m .inputs; outputs = m .outputs; presets = m .presets; thermostats = m .thermostats; reading = m .reading; last = m .last; notice = m .notice; spinel = p; modbus = m .modbus }
+withSpinel m p = record { inputs = m .inputs; outputs = m .outputs; settings = m .settings; reading = m .reading; last = m .last; spinel = p; modbus = m .modbus }
 
 abbrev pub withModbus : Module → Port → Module
-withModbus m p = record { inputs = m .inputs; outputs = m .outputs; presets = m .presets; thermostats = m .thermostats; reading = m .reading; last = m .last; notice = m .notice; spinel = m .spinel; modbus = p }
+withModbus m p = record { inputs = m .inputs; outputs = m .outputs; settings = m .settings; reading = m .reading; last = m .last; spinel = m .spinel; modbus = p }
+
+-- one part of the inputs or of the settings
+
+abbrev pub withCounters : Module → List ℕ → Module
+withCounters m cs = withInputs m (record { lines = m .inputs .lines; counters = cs })
+
+abbrev pub withModes : Module → List ℕ → Module
+withModes m ms = withSettings m (record { modes = ms; sampling = m .settings .sampling; presets = m .settings .presets; thermostats = m .settings .thermostats; notice = m .settings .notice })
+
+abbrev pub withSampling : Module → ℕ → Module
+withSampling m n = withSettings m (record { modes = m .settings .modes; sampling = n; presets = m .settings .presets; thermostats = m .settings .thermostats; notice = m .settings .notice })
+
+abbrev pub withPresets : Module → List Preset → Module
+withPresets m ps = withSettings m (record { modes = m .settings .modes; sampling = m .settings .sampling; presets = ps; thermostats = m .settings .thermostats; notice = m .settings .notice })
+
+abbrev pub withThermostats : Module → List Thermostat → Module
+withThermostats m hs = withSettings m (record { modes = m .settings .modes; sampling = m .settings .sampling; presets = m .settings .presets; thermostats = hs; notice = m .settings .notice })
+
+abbrev pub withNotice : Module → Notice → Module
+withNotice m n = withSettings m (record { modes = m .settings .modes; sampling = m .settings .sampling; presets = m .settings .presets; thermostats = m .settings .thermostats; notice = n })
 
 -- permission (01): whether the next frame that 1 to 6 let through may configure the port
 abbrev pub permit : Bool → Port → Port

@@ -17,7 +17,7 @@ use Rattle.model.specs.declared.Reading.{Reading}
 use Rattle.model.specs.declared.Reading.the-variants.{Valid, Fault}
 use Rattle.model.specs.declared.Module.{Module}
 use Rattle.model.specs.State.{output, thermostat, freshThermostat, withReading}
-use Rattle.model.specs.Refusals.{Request, accepting, refuse8, refuse11}
+use Rattle.model.specs.Refusals.{Request, accepting, telling, refuse}
 use Rattle.model.specs.Counters.{isNumber, itemsOf, mostItems, everyNumber}
 use Rattle.model.specs.Times.{secondSamples}
 
@@ -47,8 +47,8 @@ unfoldable pub readingShown : Reading → List ℕ
 readingShown (Valid t x) = 0x01 ∷ 0x80 ∷ bytes 2 (patternOf t)
 readingShown Fault = 0x01 ∷ 0x00 ∷ 0x00 ∷ 0x00 ∷ []
 
-unfoldable pub readTemperature : {P : Type 0} → List ℕ → Reading → P → Request P
-readTemperature d r p = refuse8 (not (eqb (length d) 1)) (refuse11 (not (leb (getD d 0 0) 0x01)) (accepting p (readingShown r)))
+unfoldable pub readTemperature : List ℕ → Reading → Request (Unit {0})
+readTemperature d r = refuse 8 (not (eqb (length d) 1)) (refuse 11 (not (leb (getD d 0 0) 0x01)) (telling (readingShown r)))
 
 -- the float's bits; no sample gives a NaN, and one in the state would show as 0
 unfoldable pub floatBits : Float → ℕ
@@ -95,7 +95,7 @@ setGroup hs c = set hs (getD c 0 0 - 1) (groupThermostat c)
 
 -- 1AH: eight bytes for each thermostat
 unfoldable pub setThermostats : List ℕ → List Thermostat → Request (List Thermostat)
-setThermostats d hs = refuse8 (not (itemsOf 8 d)) (refuse11 (not (all groupFits (chunks 8 d))) (accepting (foldl setGroup hs (chunks 8 d)) []))
+setThermostats d hs = refuse 8 (not (itemsOf 8 d)) (refuse 11 (not (all groupFits (chunks 8 d))) (accepting (foldl setGroup hs (chunks 8 d)) []))
 
 unfoldable pub groupShown : List Thermostat → ℕ → List ℕ
 groupShown hs n =
@@ -103,10 +103,10 @@ groupShown hs n =
     n ∷ h .flags ∷ bytes 2 (patternOf (h .tempx)) ++ bytes 2 (patternOf (h .tempy)) ++ h .time .0 ∷ h .err ∷ []
 
 -- 1BH: the groups of the outputs listed, or without data of the sixteen
-unfoldable pub readThermostats : {P : Type 0} → List ℕ → List Thermostat → P → Request P
-readThermostats d hs p =
+unfoldable pub readThermostats : List ℕ → List Thermostat → Request (Unit {0})
+readThermostats d hs =
     let ns = cond (eqb (length d) 0) everyNumber d in
-    refuse8 (not (leb (length d) mostItems)) (refuse11 (not (all isNumber ns)) (accepting p (flatMap (groupShown hs) ns)))
+    refuse 8 (not (leb (length d) mostItems)) (refuse 11 (not (all isNumber ns)) (telling (flatMap (groupShown hs) ns)))
 
 -- 12: an active thermostat leaves its output to commands (20H, 23H, 25H, coils, registers 500 to 515) only while the reading is valid
 -- and in its band, neither under TEMPy nor over TEMPx
@@ -157,5 +157,5 @@ byThermostat f hs os = mapi (λ i o. f (getD hs i freshThermostat) o) os
 
 -- a new reading; a valid one is the last valid from now on
 unfoldable pub taken : Reading → Module → Module
-taken (Valid t x) m = withReading m (byThermostat (heated (m .last) t) (m .thermostats) (m .outputs)) (Valid t x) (Valid t x)
-taken Fault m = withReading m (byThermostat failed (m .thermostats) (m .outputs)) Fault (m .last)
+taken (Valid t x) m = withReading m (byThermostat (heated (m .last) t) (m .settings .thermostats) (m .outputs)) (Valid t x) (Valid t x)
+taken Fault m = withReading m (byThermostat failed (m .settings .thermostats) (m .outputs)) Fault (m .last)

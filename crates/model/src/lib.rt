@@ -8,12 +8,10 @@ pub struct Line {
     pub run: u8,
 }
 
-// All that counting needs.
+// What samples change of the inputs: each line, and what it has counted.
 pub struct Inputs {
     pub lines: [Line; 16],
-    pub modes: [u8; 16],
     pub counters: [u16; 16],
-    pub sampling: u8,
 }
 
 // One output: its state, and the samples left of its pulse (0: no pulse).
@@ -63,15 +61,22 @@ pub struct Port {
     pub permitted: bool,
 }
 
+// What only requests change, and a reset keeps: the inputs' modes and sampling number, presets, thermostats, the notice.
+pub struct Settings {
+    pub modes: [u8; 16],
+    pub sampling: u8,
+    pub presets: [Preset; 16],
+    pub thermostats: [Thermostat; 16],
+    pub notice: Notice,
+}
+
 // The whole state. `last` is the last valid reading, a fault where there was none.
 pub struct Module {
     pub inputs: Inputs,
     pub outputs: [Output; 16],
-    pub presets: [Preset; 16],
-    pub thermostats: [Thermostat; 16],
+    pub settings: Settings,
     pub reading: Reading,
     pub last: Reading,
-    pub notice: Notice,
     pub spinel: Port,
     pub modbus: Port,
 }
@@ -99,29 +104,31 @@ pub fn fresh() -> Module
                 stable: false,
                 run: 0,
             }; 16],
-            modes: [0; 16],
             counters: [0; 16],
-            sampling: 20,
         },
         outputs: [Output { on: false, left: 0 }; 16],
-        presets: [Preset {
-            kind: 0,
-            time: HalfSeconds(0),
-        }; 16],
-        thermostats: [Thermostat {
-            flags: 0,
-            tempx: 0,
-            tempy: 0,
-            time: Seconds(0),
-            err: 0,
-        }; 16],
+        settings: Settings {
+            modes: [0; 16],
+            sampling: 20,
+            presets: [Preset {
+                kind: 0,
+                time: HalfSeconds(0),
+            }; 16],
+            thermostats: [Thermostat {
+                flags: 0,
+                tempx: 0,
+                tempy: 0,
+                time: Seconds(0),
+                err: 0,
+            }; 16],
+            notice: Notice {
+                format: 0,
+                mask: 0,
+                signature: 0,
+            },
+        },
         reading: Reading::Fault,
         last: Reading::Fault,
-        notice: Notice {
-            format: 0,
-            mask: 0,
-            signature: 0,
-        },
         spinel: Port {
             address: 0x31,
             speed: 6,

@@ -13,24 +13,16 @@ use Rattle.lists.proofs.DataLaws.{extend-law}
 use Rattle.lists.proofs.NumberLaws.{length-bytes}
 use Rattle.model.specs.declared.Output.{Output}
 use Rattle.model.specs.State.{freshOutput}
-use Rattle.model.specs.Refusals.{judged, accepting, refuse8}
+use Rattle.model.specs.Refusals.{judged, accepting, refuse}
 use Rattle.model.specs.Counters.{someData}
 use Rattle.model.specs.Outputs.{readStates}
 use Rattle.octets.specs.Answers.{toldOf}
 use Rattle.readouts.specs.Answers.{statesTold}
 
 -- 30H, 31H of any states, by their number
-pub states-told : {P : Type 0} (p : P) (d : List ℕ) (bs : List Bool) (bits : ℕ)
-    → bitsNumber bs ≡ bits → statesTold d bits ≡ toldOf (judged p (readStates d bs p))
-unfolding statesTold judged readStates
-states-told {P} p d bs bits e = rw (← e) (go (someData d))
-  where
-    -- the part does not show
-    go : (t : Bool)
-        → toldOf {P = Unit {0}} (judged tt (refuse8 t (accepting tt (bytes 2 (bitsNumber bs)))))
-        ≡ toldOf (judged p (refuse8 t (accepting p (bytes 2 (bitsNumber bs)))))
-    go true = refl
-    go false = refl
+pub states-told : (d : List ℕ) (bs : List Bool) (bits : ℕ) → bitsNumber bs ≡ bits → statesTold d bits ≡ toldOf (readStates d bs)
+unfolding statesTold readStates
+states-told d bs bits e = rw (← e) refl
 
 pub states-gathered : (bits : ℕ) → extended (dataOf []) (bytes 2 bits) ≡ dataOf (bytes 2 bits)
 states-gathered bits = extend-law (bytes 2 bits) [] (omega (arith, length-bytes 2 bits))

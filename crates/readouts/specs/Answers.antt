@@ -2,11 +2,11 @@
 use Prim.Native.Nat.{ℕ}
 use mathlib.Core.List.{List}
 use Rattle.lists.specs.Numbers.{bytes}
-use Rattle.model.specs.Refusals.{judged, accepting, refuse8}
+use Rattle.model.specs.Refusals.{judged, accepting, refuse, telling}
 use Rattle.model.specs.Counters.{someData}
 use Rattle.octets.specs.Answers.{toldOf}
 use Rattle.octets.specs.declared.Told.{Told}
 
 -- of states that are already a number: `readStates` of any states of that number
 unfoldable pub statesTold : List ℕ → ℕ → Told
-statesTold d bits = toldOf {P = Unit {0}} (judged tt (refuse8 (someData d) (accepting tt (bytes 2 bits))))
+statesTold d bits = toldOf (refuse 8 (someData d) (telling (bytes 2 bits)))

@@ -66,7 +66,7 @@ fn show_pulses(os: [Output; 16], d: &[u8]) -> Data
 
 // 33H: set byte and remaining time of each.
 pub fn read_pulses(os: [Output; 16], d: &[u8]) -> Told
-    ensures { λ r. ⌜ r ≡ toldOf {P = Unit {0}} (judged tt (listRead (pulseShown os) (now (d .entry)) tt)) ⌝ }
+    ensures { λ r. ⌜ r ≡ toldOf (listRead (pulseShown os) (now (d .entry))) ⌝ }
 {
     let refusal = items::list_refusal(d);
     if refusal != 0 {
@@ -101,7 +101,7 @@ fn show_presets(ps: [Preset; 16], d: &[u8]) -> Data
 
 // 36H: type and time of each.
 pub fn read_presets(ps: [Preset; 16], d: &[u8]) -> Told
-    ensures { λ r. ⌜ r ≡ toldOf {P = Unit {0}} (judged tt (listRead (presetShown ps) (now (d .entry)) tt)) ⌝ }
+    ensures { λ r. ⌜ r ≡ toldOf (listRead (presetShown ps) (now (d .entry))) ⌝ }
 {
     let refusal = items::list_refusal(d);
     if refusal != 0 {
@@ -140,7 +140,7 @@ fn show_modes(hs: [Thermostat; 16], ps: [Preset; 16], d: &[u8]) -> Data
 
 // 38H: a mode byte of each.
 pub fn read_modes(hs: [Thermostat; 16], ps: [Preset; 16], d: &[u8]) -> Told
-    ensures { λ r. ⌜ r ≡ toldOf {P = Unit {0}} (judged tt (listRead (modeByte hs ps) (now (d .entry)) tt)) ⌝ }
+    ensures { λ r. ⌜ r ≡ toldOf (listRead (modeByte hs ps) (now (d .entry))) ⌝ }
 {
     let refusal = items::list_refusal(d);
     if refusal != 0 {

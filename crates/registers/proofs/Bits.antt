@@ -14,7 +14,7 @@ use Rattle.lists.specs.Numbers.{bitsNumber}
 use Rattle.lists.specs.Chunks.{chunksOf}
 use Rattle.lists.proofs.DataLaws.{push-law}
 use Rattle.lists.proofs.Bits.{bit-most}
-use Rattle.model.specs.Refusals.{judged, accepting, refuse9}
+use Rattle.model.specs.Refusals.{judged, accepting, refuse, telling}
 use Rattle.model.specs.Registers.{bitGroup, outside, packed, readBits}
 use Rattle.octets.specs.Answers.{toldOf}
 use Rattle.groups.proofs.Inside.{inside}
@@ -83,13 +83,13 @@ shown-packed bs k n long h =
     rw (some, bytes-of ((n + 7) / 8) (take n (drop k bs)) (omega arith), bits-take n (drop k bs), bits-drop k bs)
 
 -- 01, 02 of any states, by their number
-pub bits-told : {P : Type 0} (p : P) (bs : List Bool) (bits k n : ℕ) → length bs ≡ 16 → bitsNumber bs ≡ bits → bitsTold bits k n ≡ toldOf (judged p (readBits bs k n p))
+pub bits-told : (bs : List Bool) (bits k n : ℕ) → length bs ≡ 16 → bitsNumber bs ≡ bits → bitsTold bits k n ≡ toldOf (readBits bs k n)
 unfolding bitsTold readBits judged
-bits-told {P} p bs bits k n long e = rw (← e) (go (outside bitGroup k n) refl)
+bits-told bs bits k n long e = rw (← e) (go (outside bitGroup k n) refl)
   where
     go : (t : Bool)
         → outside bitGroup k n ≡ t
-        → toldOf {P = Unit {0}} (judged tt (refuse9 t (accepting tt (bitsShown (partOf (bitsNumber bs) k n) n))))
-        ≡ toldOf (judged p (refuse9 t (accepting p ((n + 7) / 8 ∷ packed (take n (drop k bs))))))
+        → toldOf (refuse 9 t (telling (bitsShown (partOf (bitsNumber bs) k n) n)))
+        ≡ toldOf (refuse 9 t (telling ((n + 7) / 8 ∷ packed (take n (drop k bs)))))
     go true h = refl
     go false h = rw (shown-packed bs k n long (inside bitGroup k n h .ends))

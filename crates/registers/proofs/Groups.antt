@@ -18,7 +18,7 @@ use Rattle.model.specs.declared.Reading.{Reading}
 use Rattle.model.specs.declared.Reading.the-variants.{Valid, Fault}
 use Rattle.model.specs.State.{freshOutput}
 use Rattle.model.specs.Outputs.{remaining}
-use Rattle.model.specs.Refusals.{judged, accepting, refuse9}
+use Rattle.model.specs.Refusals.{judged, accepting, refuse, telling}
 use Rattle.model.specs.Temperature.{readingWords}
 use Rattle.model.specs.Registers.{outside, outputWord, readWords}
 use Rattle.model.proofs.Short.{flat-most}
@@ -55,12 +55,12 @@ part-first (x ∷ xs) ys zero (suc n) h = ap (x ∷_) (part-first xs ys zero n (
 part-first (x ∷ xs) ys (suc k) n h = part-first xs ys k n (omega arith)
 
 -- a group whose words are the first of two lists shows none of the second
-pub first-told : (g : Group) (xs ys : List ℕ) (a n : ℕ) → g .count ≤ length xs → toldOf {P = Unit {0}} (judged tt (readWords g (xs ++ ys) a n tt)) ≡ toldOf {P = Unit {0}} (judged tt (readWords g xs a n tt))
+pub first-told : (g : Group) (xs ys : List ℕ) (a n : ℕ) → g .count ≤ length xs → toldOf (readWords g (xs ++ ys) a n) ≡ toldOf (readWords g xs a n)
 unfolding readWords judged
 first-told g xs ys a n h = go (outside g a n) refl
   where
     answer : Bool → List ℕ → Told
-    answer t part = toldOf {P = Unit {0}} (judged tt (refuse9 t (accepting tt (2 * n ∷ flatMap (bytes 2) part))))
+    answer t part = toldOf (refuse 9 t (telling (2 * n ∷ flatMap (bytes 2) part)))
 
     go : (t : Bool) → outside g a n ≡ t → answer t (take n (drop (a - g .first) (xs ++ ys))) ≡ answer t (take n (drop (a - g .first) xs))
     go true e = refl

@@ -5,7 +5,7 @@ use lib.ListN.{take, drop, replicate}
 use Rattle.lists.specs.Numbers.{bytes}
 use Rattle.model.specs.declared.Thermostat.{Thermostat}
 use Rattle.model.specs.declared.Reading.{Reading}
-use Rattle.model.specs.Refusals.{judged, accepting, refuse9}
+use Rattle.model.specs.Refusals.{judged, accepting, refuse, telling}
 use Rattle.model.specs.Temperature.{readingWords}
 use Rattle.model.specs.Registers.{bitGroup, outside, thermostatWords}
 use Rattle.octets.specs.Answers.{toldOf}
@@ -29,4 +29,4 @@ bitsShown v n = (n + 7) / 8 ∷ take ((n + 7) / 8) (v % 256 ∷ v / 256 % 256 �
 
 -- of states that are already a number: `readBits` of any sixteen states of that number
 unfoldable pub bitsTold : ℕ → ℕ → ℕ → Told
-bitsTold bits k n = toldOf {P = Unit {0}} (judged tt (refuse9 (outside bitGroup k n) (accepting tt (bitsShown (partOf bits k n) n))))
+bitsTold bits k n = toldOf (refuse 9 (outside bitGroup k n) (telling (bitsShown (partOf bits k n) n)))

@@ -40,7 +40,7 @@ fn show_words(words: [u16; 16], k: usize, n: usize) -> Data
 // n registers from `a` on, of a group that shows the first of these words.
 fn tell_words(g: Group, words: [u16; 16], a: u16, n: u16) -> Told
     requires { ⌜ g .count ≤ 16 ⌝ }
-    ensures { λ r. ⌜ r ≡ toldOf {P = Unit {0}} (judged tt (readWords g words a n tt)) ⌝ }
+    ensures { λ r. ⌜ r ≡ toldOf (readWords g words a n) ⌝ }
 {
     if groups::is_outside(g, a, n as usize) {
         return octets::refuse(9);
@@ -50,7 +50,7 @@ fn tell_words(g: Group, words: [u16; 16], a: u16, n: u16) -> Told
 
 // 100 to 115: counters.
 pub fn read_counters(cs: [u16; 16], a: u16, n: u16) -> Told
-    ensures { λ r. ⌜ r ≡ toldOf {P = Unit {0}} (judged tt (readWords counterGroup cs a n tt)) ⌝ }
+    ensures { λ r. ⌜ r ≡ toldOf (readWords counterGroup cs a n) ⌝ }
 {
     tell_words(groups::COUNTERS, cs, a, n)
 }
@@ -71,7 +71,7 @@ fn byte_words(bs: [u8; 16]) -> [u16; 16]
 
 // 300 to 315: modes, two bytes each.
 pub fn read_modes(ms: [u8; 16], a: u16, n: u16) -> Told
-    ensures { λ r. ⌜ r ≡ toldOf {P = Unit {0}} (judged tt (readWords modeGroup ms a n tt)) ⌝ }
+    ensures { λ r. ⌜ r ≡ toldOf (readWords modeGroup ms a n) ⌝ }
 {
     tell_words(groups::MODES, byte_words(ms), a, n)
 }
@@ -101,14 +101,14 @@ pub fn output_words(os: [Output; 16]) -> [u16; 16]
 
 // 500 to 515: outputs.
 pub fn read_outputs(os: [Output; 16], a: u16, n: u16) -> Told
-    ensures { λ r. ⌜ r ≡ toldOf {P = Unit {0}} (judged tt (readWords outputGroup (map outputWord os) a n tt)) ⌝ }
+    ensures { λ r. ⌜ r ≡ toldOf (readWords outputGroup (map outputWord os) a n) ⌝ }
 {
     tell_words(groups::OUTPUTS, output_words(os), a, n)
 }
 
 // 1 to 2: a port's address and speed.
 pub fn read_port(p: Port, a: u16, n: u16) -> Told
-    ensures { λ r. ⌜ r ≡ toldOf {P = Unit {0}} (judged tt (readWords portGroup (portWords p) a n tt)) ⌝ }
+    ensures { λ r. ⌜ r ≡ toldOf (readWords portGroup (portWords p) a n) ⌝ }
 {
     let mut words = [0u16; 16];
     words[0] = p.address as u16;
@@ -138,7 +138,7 @@ fn reading_words(reading: Reading) -> [u16; 16]
 
 // Input registers 0 to 3: the reading.
 pub fn read_input(reading: Reading, a: u16, n: u16) -> Told
-    ensures { λ r. ⌜ r ≡ toldOf {P = Unit {0}} (judged tt (readWords readingGroup (readingWords reading) a n tt)) ⌝ }
+    ensures { λ r. ⌜ r ≡ toldOf (readWords readingGroup (readingWords reading) a n) ⌝ }
 {
     tell_words(groups::READING, reading_words(reading), a, n)
 }
@@ -163,7 +163,7 @@ fn thermostat_words(h: Thermostat) -> [u16; 16]
 
 // 600 to 663: one thermostat by its four registers.
 pub fn read_thermostat(hs: [Thermostat; 16], a: u16, n: u16) -> Told
-    ensures { λ r. ⌜ r ≡ toldOf {P = Unit {0}} (judged tt (readThermostat hs a n tt)) ⌝ }
+    ensures { λ r. ⌜ r ≡ toldOf (readThermostat hs a n) ⌝ }
 {
     if groups::no_thermostat(a, n as usize) {
         return octets::refuse(9);

@@ -8,7 +8,7 @@ ghost use Rattle.lists.specs.Tests.{all};
 ghost use Rattle.lists.specs.Entries.{entry};
 ghost use Rattle.lists.specs.Chunks.{chunks};
 ghost use Rattle.model.specs.State.{output, freshThermostat};
-ghost use Rattle.model.specs.Refusals.{judged, refuse8};
+ghost use Rattle.model.specs.Refusals.{judged, refuse};
 ghost use Rattle.model.specs.Counters.{itemsOf};
 ghost use Rattle.model.specs.Temperature.{freeAt};
 ghost use Rattle.model.specs.Outputs.{setByte, numberFits, setOutput, startPulse, setOutputs, pulseOutputs, setPulses};
@@ -192,7 +192,7 @@ fn pulse_listed(
     d: &[u8],
     os: [Output; 16],
 ) -> Switched
-    ensures { λ q. ⌜ q ≡ switchedOf (judged os (refuse8 (not (itemsOf 1 (now (d .entry)))) (pulseOutputs time r hs (map setByte (now (d .entry))) os))) ⌝ }
+    ensures { λ q. ⌜ q ≡ switchedOf (judged os (refuse 8 (not (itemsOf 1 (now (d .entry)))) (pulseOutputs time r hs (map setByte (now (d .entry))) os))) ⌝ }
 {
     if !items::items_of(1, d.len()) {
         return answer(8, os);

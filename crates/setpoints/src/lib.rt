@@ -176,7 +176,7 @@ fn show_groups(hs: [Thermostat; 16], d: &[u8]) -> Data
 
 // 1BH: the groups of the outputs listed, or without data of all.
 pub fn read_thermostats(d: &[u8], hs: [Thermostat; 16]) -> Told
-    ensures { λ r. ⌜ r ≡ toldOf (judged hs (readThermostats (now (d .entry)) hs hs)) ⌝ }
+    ensures { λ r. ⌜ r ≡ toldOf (readThermostats (now (d .entry)) hs) ⌝ }
 {
     if 12 < d.len() {
         return octets::refuse(8);
@@ -204,7 +204,7 @@ fn show_reading(r: Reading) -> Data
 
 // 51H: the reading.
 pub fn read_temperature(d: &[u8], r: Reading) -> Told
-    ensures { λ q. ⌜ q ≡ toldOf (judged r (readTemperature (now (d .entry)) r r)) ⌝ }
+    ensures { λ q. ⌜ q ≡ toldOf (readTemperature (now (d .entry)) r) ⌝ }
 {
     if d.len() != 1 {
         return octets::refuse(8);

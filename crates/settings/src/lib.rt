@@ -1,10 +1,8 @@
 // The notice's settings, the ports' address, speed and permission, and the reset.
 ghost use mathlib.Core.Path.{_≡_};
-ghost use mathlib.Core.List.{map};
-ghost use Rattle.model.specs.declared.Line.{Line as LineOf};
-ghost use Rattle.model.specs.State.{line, permit};
+ghost use Rattle.model.specs.State.{permit};
 ghost use Rattle.model.specs.Refusals.{refused, judged};
-ghost use Rattle.model.specs.Counters.{resetInputs, reset, givePermission, setPort, readPort, resetModule};
+ghost use Rattle.model.specs.Counters.{runsEnded, clearedCounters, reset, givePermission, setPort, readPort, resetModule};
 ghost use Rattle.model.specs.Notice.{maskGiven, setNotice, readNotice};
 ghost use Rattle.octets.specs.Answers.{toldOf};
 ghost use Rattle.settings.specs.Parts.{noticeSetOf, portSetOf, moduleSetOf};
@@ -46,7 +44,7 @@ pub fn permitted(p: Port, given: bool) -> Port
 
 // Runs zeroed, stable states kept.
 fn reset_lines(a: [Line; 16]) -> [Line; 16]
-    ensures { λ r. ⌜ r ≡ map (λ (y : LineOf). line (y .stable) 0) a ⌝ }
+    ensures { λ r. ⌜ r ≡ runsEnded a ⌝ }
 {
     let mut next = a;
     for i in 0..16usize {
@@ -60,7 +58,7 @@ fn reset_lines(a: [Line; 16]) -> [Line; 16]
 }
 
 fn reset_inputs(x: Inputs) -> Inputs
-    ensures { λ r. ⌜ r ≡ resetInputs x ⌝ }
+    ensures { λ r. ⌜ r ≡ record { lines = runsEnded (x .lines); counters = clearedCounters } ⌝ }
 {
     let was = x.lines;
     let lines = reset_lines(was);
@@ -143,7 +141,7 @@ pub fn set_notice(signature: u8, d: &[u8], n: Notice) -> NoticeSet
 
 // 11H: the format byte and the mask.
 pub fn read_notice(d: &[u8], n: Notice) -> Told
-    ensures { λ r. ⌜ r ≡ toldOf (judged n (readNotice (now (d .entry)) n n)) ⌝ }
+    ensures { λ r. ⌜ r ≡ toldOf (readNotice (now (d .entry)) n) ⌝ }
 {
     if d.len() != 0 {
         return octets::refuse(8);
@@ -176,7 +174,7 @@ pub fn give_permission(universal: bool, d: &[u8], p: Port) -> PortSet
 
 // F0H: address and speed.
 pub fn read_port(d: &[u8], p: Port) -> Told
-    ensures { λ r. ⌜ r ≡ toldOf (judged p (readPort (now (d .entry)) p p)) ⌝ }
+    ensures { λ r. ⌜ r ≡ toldOf (readPort (now (d .entry)) p) ⌝ }
 {
     if d.len() != 0 {
         return octets::refuse(8);

@@ -2,14 +2,15 @@
 ghost use mathlib.Core.Path.{_≡_};
 ghost use Prim.Native.Nat.{_≤_};
 ghost use lib.ListN.{length};
-ghost use Rattle.model.specs.State.{withInputs, withOutputs, withPresets, withThermostats, withNotice, withSpinel, withModes, withCounters};
+ghost use Rattle.model.specs.State.{withOutputs, withSpinel, withCounters, withModes, withSampling, withPresets, withThermostats, withNotice};
 ghost use Rattle.model.specs.Samples.{inputStates};
-ghost use Rattle.model.specs.Refusals.{onPart, judged};
+ghost use Rattle.model.specs.Refusals.{onPart, reading, judged};
 ghost use Rattle.model.specs.Counters.{listRead, readCounters, deductCounters, setModesList, modeShown, setSampling, readSampling, givePermission, setPort, readPort, resetModule};
 ghost use Rattle.model.specs.Outputs.{setOutputs, setPulses, setPresets, startPresets, pulseShown, presetShown, modeByte, outputStates, readStates};
 ghost use Rattle.model.specs.Notice.{setNotice, readNotice};
 ghost use Rattle.model.specs.Temperature.{readTemperature, setThermostats, readThermostats};
-ghost use Rattle.model.specs.Spinel.{spinelAsked, spinelUsed, spinelActed, spinelHandled};
+ghost use Rattle.model.specs.Wire.{usedUp, frameActed, frameHandled};
+ghost use Rattle.model.specs.Spinel.{spinelAsked, spinelWire};
 ghost use Rattle.answers.specs.Parts.{servedOf, handledOf};
 ghost use Rattle.spinel.specs.Parts.{answeredTo};
 use answers::Handled;
@@ -18,27 +19,31 @@ use model::Module;
 
 // 10H
 fn set_notice(m: Module, signature: u8, d: &[u8]) -> Served
-    ensures { λ r. ⌜ r ≡ servedOf (judged m (onPart (withNotice m) (setNotice signature (now (d .entry)) (m .notice)))) ⌝ }
+    ensures { λ r. ⌜ r ≡ servedOf (judged m (onPart (withNotice m) (setNotice signature (now (d .entry)) (m .settings .notice)))) ⌝ }
 {
-    let s = settings::set_notice(signature, d, m.notice);
+    let mut kept = m.settings;
+    let s = settings::set_notice(signature, d, kept.notice);
     let notice = s.notice;
+    kept.notice = notice;
     let mut next = m;
-    next.notice = notice;
+    next.settings = kept;
     answers::bare(s.refusal, next)
 }
 
 // 11H
 fn read_notice(m: Module, d: &[u8]) -> Served
-    ensures { λ r. ⌜ r ≡ servedOf (judged m (readNotice (now (d .entry)) (m .notice) m)) ⌝ }
+    ensures { λ r. ⌜ r ≡ servedOf (judged m (reading m (readNotice (now (d .entry)) (m .settings .notice)))) ⌝ }
 {
-    answers::told(m, settings::read_notice(d, m.notice))
+    let kept = m.settings;
+    answers::told(m, settings::read_notice(d, kept.notice))
 }
 
 // 1AH
 fn set_thermostats(m: Module, d: &[u8]) -> Served
-    ensures { λ r. ⌜ r ≡ servedOf (judged m (onPart (withThermostats m) (setThermostats (now (d .entry)) (m .thermostats)))) ⌝ }
+    ensures { λ r. ⌜ r ≡ servedOf (judged m (onPart (withThermostats m) (setThermostats (now (d .entry)) (m .settings .thermostats)))) ⌝ }
 {
-    let hs = m.thermostats;
+    let kept = m.settings;
+    let hs = kept.thermostats;
     let s = setpoints::set_thermostats(d, hs);
     let thermostats = s.thermostats;
     answers::put_thermostats(m, s.refusal, thermostats)
@@ -46,17 +51,19 @@ fn set_thermostats(m: Module, d: &[u8]) -> Served
 
 // 1BH
 fn read_thermostats(m: Module, d: &[u8]) -> Served
-    ensures { λ r. ⌜ r ≡ servedOf (judged m (readThermostats (now (d .entry)) (m .thermostats) m)) ⌝ }
+    ensures { λ r. ⌜ r ≡ servedOf (judged m (reading m (readThermostats (now (d .entry)) (m .settings .thermostats)))) ⌝ }
 {
-    let hs = m.thermostats;
+    let kept = m.settings;
+    let hs = kept.thermostats;
     answers::told(m, setpoints::read_thermostats(d, hs))
 }
 
 // 20H
 fn set_outputs(m: Module, d: &[u8]) -> Served
-    ensures { λ r. ⌜ r ≡ servedOf (judged m (onPart (withOutputs m) (setOutputs (m .reading) (m .thermostats) (now (d .entry)) (m .outputs)))) ⌝ }
+    ensures { λ r. ⌜ r ≡ servedOf (judged m (onPart (withOutputs m) (setOutputs (m .reading) (m .settings .thermostats) (now (d .entry)) (m .outputs)))) ⌝ }
 {
-    let hs = m.thermostats;
+    let kept = m.settings;
+    let hs = kept.thermostats;
     let os = m.outputs;
     let reading = m.reading;
     let s = relays::set_outputs(reading, hs, d, os);
@@ -66,9 +73,10 @@ fn set_outputs(m: Module, d: &[u8]) -> Served
 
 // 23H
 fn set_pulses(m: Module, d: &[u8]) -> Served
-    ensures { λ r. ⌜ r ≡ servedOf (judged m (onPart (withOutputs m) (setPulses (m .reading) (m .thermostats) (now (d .entry)) (m .outputs)))) ⌝ }
+    ensures { λ r. ⌜ r ≡ servedOf (judged m (onPart (withOutputs m) (setPulses (m .reading) (m .settings .thermostats) (now (d .entry)) (m .outputs)))) ⌝ }
 {
-    let hs = m.thermostats;
+    let kept = m.settings;
+    let hs = kept.thermostats;
     let os = m.outputs;
     let reading = m.reading;
     let s = relays::set_pulses(reading, hs, d, os);
@@ -78,10 +86,11 @@ fn set_pulses(m: Module, d: &[u8]) -> Served
 
 // 25H
 fn start_presets(m: Module, d: &[u8]) -> Served
-    ensures { λ r. ⌜ r ≡ servedOf (judged m (onPart (withOutputs m) (startPresets (m .presets) (m .reading) (m .thermostats) (now (d .entry)) (m .outputs)))) ⌝ }
+    ensures { λ r. ⌜ r ≡ servedOf (judged m (onPart (withOutputs m) (startPresets (m .settings .presets) (m .reading) (m .settings .thermostats) (now (d .entry)) (m .outputs)))) ⌝ }
 {
-    let ps = m.presets;
-    let hs = m.thermostats;
+    let kept = m.settings;
+    let ps = kept.presets;
+    let hs = kept.thermostats;
     let os = m.outputs;
     let reading = m.reading;
     let s = relays::start_presets(ps, reading, hs, d, os);
@@ -91,19 +100,21 @@ fn start_presets(m: Module, d: &[u8]) -> Served
 
 // 26H
 fn set_presets(m: Module, d: &[u8]) -> Served
-    ensures { λ r. ⌜ r ≡ servedOf (judged m (onPart (withPresets m) (setPresets (now (d .entry)) (m .presets)))) ⌝ }
+    ensures { λ r. ⌜ r ≡ servedOf (judged m (onPart (withPresets m) (setPresets (now (d .entry)) (m .settings .presets)))) ⌝ }
 {
-    let ps = m.presets;
+    let mut kept = m.settings;
+    let ps = kept.presets;
     let s = relays::set_presets(d, ps);
     let presets = s.presets;
+    kept.presets = presets;
     let mut next = m;
-    next.presets = presets;
+    next.settings = kept;
     answers::bare(s.refusal, next)
 }
 
 // 30H
 fn read_outputs(m: Module, d: &[u8]) -> Served
-    ensures { λ r. ⌜ r ≡ servedOf (judged m (readStates (now (d .entry)) (outputStates (m .outputs)) m)) ⌝ }
+    ensures { λ r. ⌜ r ≡ servedOf (judged m (reading m (readStates (now (d .entry)) (outputStates (m .outputs))))) ⌝ }
 {
     let os = m.outputs;
     answers::told(m, readouts::read_states(d, readouts::output_bits(os)))
@@ -111,7 +122,7 @@ fn read_outputs(m: Module, d: &[u8]) -> Served
 
 // 31H
 fn read_inputs(m: Module, d: &[u8]) -> Served
-    ensures { λ r. ⌜ r ≡ servedOf (judged m (readStates (now (d .entry)) (inputStates (m .inputs)) m)) ⌝ }
+    ensures { λ r. ⌜ r ≡ servedOf (judged m (reading m (readStates (now (d .entry)) (inputStates (m .inputs))))) ⌝ }
 {
     let x = m.inputs;
     let lines = x.lines;
@@ -120,7 +131,7 @@ fn read_inputs(m: Module, d: &[u8]) -> Served
 
 // 33H
 fn read_pulses(m: Module, d: &[u8]) -> Served
-    ensures { λ r. ⌜ r ≡ servedOf (judged m (listRead (pulseShown (m .outputs)) (now (d .entry)) m)) ⌝ }
+    ensures { λ r. ⌜ r ≡ servedOf (judged m (reading m (listRead (pulseShown (m .outputs)) (now (d .entry))))) ⌝ }
 {
     let os = m.outputs;
     answers::told(m, readouts::read_pulses(os, d))
@@ -128,24 +139,26 @@ fn read_pulses(m: Module, d: &[u8]) -> Served
 
 // 36H
 fn read_presets(m: Module, d: &[u8]) -> Served
-    ensures { λ r. ⌜ r ≡ servedOf (judged m (listRead (presetShown (m .presets)) (now (d .entry)) m)) ⌝ }
+    ensures { λ r. ⌜ r ≡ servedOf (judged m (reading m (listRead (presetShown (m .settings .presets)) (now (d .entry))))) ⌝ }
 {
-    let ps = m.presets;
+    let kept = m.settings;
+    let ps = kept.presets;
     answers::told(m, readouts::read_presets(ps, d))
 }
 
 // 38H
 fn read_output_modes(m: Module, d: &[u8]) -> Served
-    ensures { λ r. ⌜ r ≡ servedOf (judged m (listRead (modeByte (m .thermostats) (m .presets)) (now (d .entry)) m)) ⌝ }
+    ensures { λ r. ⌜ r ≡ servedOf (judged m (reading m (listRead (modeByte (m .settings .thermostats) (m .settings .presets)) (now (d .entry))))) ⌝ }
 {
-    let hs = m.thermostats;
-    let ps = m.presets;
+    let kept = m.settings;
+    let hs = kept.thermostats;
+    let ps = kept.presets;
     answers::told(m, readouts::read_modes(hs, ps, d))
 }
 
 // 51H
 fn read_temperature(m: Module, d: &[u8]) -> Served
-    ensures { λ r. ⌜ r ≡ servedOf (judged m (readTemperature (now (d .entry)) (m .reading) m)) ⌝ }
+    ensures { λ r. ⌜ r ≡ servedOf (judged m (reading m (readTemperature (now (d .entry)) (m .reading)))) ⌝ }
 {
     let reading = m.reading;
     answers::told(m, setpoints::read_temperature(d, reading))
@@ -153,7 +166,7 @@ fn read_temperature(m: Module, d: &[u8]) -> Served
 
 // 60H
 fn read_counters(m: Module, d: &[u8]) -> Served
-    ensures { λ r. ⌜ r ≡ servedOf (judged m (onPart (λ cs. withInputs m (withCounters (m .inputs) cs)) (readCounters (now (d .entry)) (m .inputs .counters)))) ⌝ }
+    ensures { λ r. ⌜ r ≡ servedOf (judged m (onPart (withCounters m) (readCounters (now (d .entry)) (m .inputs .counters)))) ⌝ }
 {
     let x = m.inputs;
     let cs = x.counters;
@@ -165,7 +178,7 @@ fn read_counters(m: Module, d: &[u8]) -> Served
 
 // 61H
 fn deduct_counters(m: Module, d: &[u8]) -> Served
-    ensures { λ r. ⌜ r ≡ servedOf (judged m (onPart (λ cs. withInputs m (withCounters (m .inputs) cs)) (deductCounters (now (d .entry)) (m .inputs .counters)))) ⌝ }
+    ensures { λ r. ⌜ r ≡ servedOf (judged m (onPart (withCounters m) (deductCounters (now (d .entry)) (m .inputs .counters)))) ⌝ }
 {
     let x = m.inputs;
     let cs = x.counters;
@@ -176,30 +189,30 @@ fn deduct_counters(m: Module, d: &[u8]) -> Served
 
 // 62H
 fn set_sampling(m: Module, d: &[u8]) -> Served
-    ensures { λ r. ⌜ r ≡ servedOf (judged m (onPart (withInputs m) (setSampling (now (d .entry)) (m .inputs)))) ⌝ }
+    ensures { λ r. ⌜ r ≡ servedOf (judged m (onPart (withSampling m) (setSampling (now (d .entry))))) ⌝ }
 {
-    let x = m.inputs;
-    let s = counters::set_sampling(x, d);
-    let inputs = s.inputs;
+    let mut kept = m.settings;
+    let s = counters::set_sampling(kept.sampling, d);
+    kept.sampling = s.sampling;
     let mut next = m;
-    next.inputs = inputs;
+    next.settings = kept;
     answers::bare(s.refusal, next)
 }
 
 // 63H
 fn read_sampling(m: Module, d: &[u8]) -> Served
-    ensures { λ r. ⌜ r ≡ servedOf (judged m (readSampling (now (d .entry)) (m .inputs) m)) ⌝ }
+    ensures { λ r. ⌜ r ≡ servedOf (judged m (reading m (readSampling (now (d .entry)) (m .settings .sampling)))) ⌝ }
 {
-    let x = m.inputs;
-    answers::told(m, counters::read_sampling(x, d))
+    let kept = m.settings;
+    answers::told(m, counters::read_sampling(kept.sampling, d))
 }
 
 // 6AH
 fn set_modes(m: Module, d: &[u8]) -> Served
-    ensures { λ r. ⌜ r ≡ servedOf (judged m (onPart (λ ms. withInputs m (withModes (m .inputs) ms)) (setModesList (now (d .entry)) (m .inputs .modes)))) ⌝ }
+    ensures { λ r. ⌜ r ≡ servedOf (judged m (onPart (withModes m) (setModesList (now (d .entry)) (m .settings .modes)))) ⌝ }
 {
-    let x = m.inputs;
-    let ms = x.modes;
+    let kept = m.settings;
+    let ms = kept.modes;
     let s = counters::set_modes(ms, d);
     let modes = s.modes;
     answers::put_modes(m, s.refusal, modes)
@@ -207,10 +220,10 @@ fn set_modes(m: Module, d: &[u8]) -> Served
 
 // 6BH
 fn read_modes(m: Module, d: &[u8]) -> Served
-    ensures { λ r. ⌜ r ≡ servedOf (judged m (listRead (modeShown (m .inputs .modes)) (now (d .entry)) m)) ⌝ }
+    ensures { λ r. ⌜ r ≡ servedOf (judged m (reading m (listRead (modeShown (m .settings .modes)) (now (d .entry))))) ⌝ }
 {
-    let x = m.inputs;
-    let ms = x.modes;
+    let kept = m.settings;
+    let ms = kept.modes;
     answers::told(m, counters::read_modes(ms, d))
 }
 
@@ -245,7 +258,7 @@ fn give_permission(m: Module, universal: bool, d: &[u8]) -> Served
 
 // F0H
 fn read_port(m: Module, d: &[u8]) -> Served
-    ensures { λ r. ⌜ r ≡ servedOf (judged m (readPort (now (d .entry)) (m .spinel) m)) ⌝ }
+    ensures { λ r. ⌜ r ≡ servedOf (judged m (reading m (readPort (now (d .entry)) (m .spinel)))) ⌝ }
 {
     answers::told(m, settings::read_port(d, m.spinel))
 }
@@ -292,7 +305,7 @@ fn serve(
 
 // A request that passes 1 to 6 uses the port's permission up.
 fn use_up(m: Module) -> Module
-    ensures { λ r. ⌜ r ≡ spinelUsed m ⌝ }
+    ensures { λ r. ⌜ r ≡ usedUp spinelWire m ⌝ }
 {
     let spinel = settings::permitted(m.spinel, false);
     let mut next = m;
@@ -324,7 +337,7 @@ fn answer(own: u8, to: u8, signature: u8, s: Served) -> Handled
 // A frame that passes 2 to 6.
 fn act(m: Module, frame: &[u8]) -> Handled
     requires { ⌜ 9 ≤ length (now frame) ⌝ }
-    ensures { λ r. ⌜ r ≡ handledOf (spinelActed (now (frame .entry)) m) ⌝ }
+    ensures { λ r. ⌜ r ≡ handledOf (frameActed spinelWire (now (frame .entry)) m) ⌝ }
 {
     let port = m.spinel;
     let to = frame[4];
@@ -344,7 +357,7 @@ fn act(m: Module, frame: &[u8]) -> Handled
 
 // Any frame: checks 2 to 6, then the instruction.
 pub fn handle(m: Module, frame: &[u8]) -> Handled
-    ensures { λ r. ⌜ r ≡ handledOf (spinelHandled (now (frame .entry)) m) ⌝ }
+    ensures { λ r. ⌜ r ≡ handledOf (frameHandled spinelWire (now (frame .entry)) m) ⌝ }
 {
     let port = m.spinel;
     let refusal = frames::spinel_refusal(port.address, frame);

@@ -8,7 +8,7 @@ use Rattle.model.specs.Temperature.{taken}
 use Rattle.thermostat.specs.Parts.{takenParts}
 
 pub taken-parts : (r : Reading) (m : Module) →
-    let t = takenParts (m .outputs) (m .thermostats) (m .last) r in withReading m (t .outputs) (t .reading) (t .last) ≡ taken r m
+    let t = takenParts (m .outputs) (m .settings .thermostats) (m .last) r in withReading m (t .outputs) (t .reading) (t .last) ≡ taken r m
 unfolding takenParts taken
 taken-parts (Valid t x) m = refl
 taken-parts Fault m = refl

@@ -9,7 +9,7 @@ use Rattle.lists.specs.Tests.{all}
 use Rattle.lists.specs.Entries.{Entry, entry, numbered}
 use Rattle.lists.specs.Walk.{walk}
 use Rattle.lists.proofs.Walks.{walk-splits, turn-goes, turn-stops, turn-ends, onCopy, all-on}
-use Rattle.model.specs.Refusals.{judged, accepting, refuse11}
+use Rattle.model.specs.Refusals.{judged, accepting, refuse}
 use Rattle.model.specs.Modbus.{words}
 use Rattle.writes.proofs.Words.{numbered-first, numbered-none}
 
@@ -20,13 +20,13 @@ taking ok step = walk (onCopy ok) step
 -- 11 with the part as it was, or 0 with the part that the copy gives
 module _ {S P R : Type 0} (ok : Entry → Bool) (step : S → Entry → S) (put : S → P) (answer : ℕ → P → R) (p : P) (s : S) (es : List Entry) where
   by-test : (b : Bool) (after : P)
-      → cond b (answer 0 after) (answer 11 p) ≡ answer (judged p (refuse11 (not b) (accepting after [])) .refusal) (judged p (refuse11 (not b) (accepting after [])) .part)
+      → cond b (answer 0 after) (answer 11 p) ≡ answer (judged p (refuse 11 (not b) (accepting after [])) .refusal) (judged p (refuse 11 (not b) (accepting after [])) .part)
   unfolding judged
   by-test true after = refl
   by-test false after = refl
 
   pub taken : taking ok step (λ x. answer 0 (put x)) (answer 11 p) s es
-      ≡ answer (judged p (refuse11 (not (all ok es)) (accepting (put (foldl step s es)) [])) .refusal) (judged p (refuse11 (not (all ok es)) (accepting (put (foldl step s es)) [])) .part)
+      ≡ answer (judged p (refuse 11 (not (all ok es)) (accepting (put (foldl step s es)) [])) .refusal) (judged p (refuse 11 (not (all ok es)) (accepting (put (foldl step s es)) [])) .part)
   taken = walk-splits (onCopy ok) step (λ x. answer 0 (put x)) (answer 11 p) es s ∙ rw (all-on ok step es s) (by-test (all ok es) (put (foldl step s es)))
 
 -- one turn on the value at i, for number n, and the end

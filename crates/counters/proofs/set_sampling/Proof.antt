@@ -22,7 +22,7 @@ returns-2 c = rw (eq-eqb _ _ (c .before .before .if1 .left), c .if2 .taken)
 returns-3 : tie.Need-returns-3
 unfolding setSampling judged
 returns-3 c =
-    let at = c .before .before .before .before in
+    let at = c .before in
     let d = now (at .before .before .args .d) in
     rw (eq-eqb _ _ (at .before .if1 .left), is-within 1 255 (getD d 0 0) (omega arith) (omega (arith, at .shared-slice-known .given 0)))
 

@@ -4,7 +4,7 @@ use mathlib.Core.Path.{sym, _∙_}
 use native.Mathlib.Omega.{arith}
 use lib.ListN.{length}
 use denote.Ref.{now}
-use Rattle.model.specs.Refusals.{modbusFrameRefusal}
+use Rattle.model.specs.Wire.{frameRefusal}
 use Rattle.frames.proofs.Passing.{at-least}
 use Rattle.frames.proofs.modbus_refusal.Statement.{statement}
 use Rattle.frames.proofs.modbus_refusal.Tie as tie
@@ -13,17 +13,17 @@ long : (c : tie.Else1) → 4 ≤ length (now (c .before .before .before .args .f
 long c = at-least 4 (now (c .before .before .before .args .frame)) (sym (c .before .frame-length-wrong .ensures) ∙ c .if1 .left)
 
 returns : tie.Need-returns
-unfolding modbusFrameRefusal
+unfolding frameRefusal
 returns c = rw (sym (c .before .frame-length-wrong .ensures) ∙ c .if1 .taken)
 
 returns-2 : tie.Need-returns-2
-unfolding modbusFrameRefusal
+unfolding frameRefusal
 returns-2 c =
     let a = c .before .before in
     rw (sym (a .before .frame-length-wrong .ensures) ∙ a .if1 .left, sym (c .before .crc-wrong .ensures) ∙ c .if2 .taken)
 
 returns-3 : tie.Need-returns-3
-unfolding modbusFrameRefusal
+unfolding frameRefusal
 returns-3 c =
     let b = c .before .before .before in
     let a = b .before .before in
@@ -36,7 +36,7 @@ shared-slice-read-modbus-broadcast-wrong-2 : tie.Need-shared-slice-read-modbus-b
 shared-slice-read-modbus-broadcast-wrong-2 c = omega (arith, long (c .before .before .before .before .before .before .before))
 
 returns-4 : tie.Need-returns-4
-unfolding modbusFrameRefusal
+unfolding frameRefusal
 returns-4 c =
     let d = c .before .before .before .before in
     let b = d .before .before .before in
@@ -44,7 +44,7 @@ returns-4 c =
     rw (sym (a .before .frame-length-wrong .ensures) ∙ a .if1 .left, sym (b .before .crc-wrong .ensures) ∙ b .if2 .left, sym (d .before .modbus-address-wrong .ensures) ∙ d .if3 .left, sym (c .before .modbus-broadcast-wrong .ensures) ∙ c .if4 .taken)
 
 returns-5 : tie.Need-returns-5
-unfolding modbusFrameRefusal
+unfolding frameRefusal
 returns-5 c =
     let d = c .before .before .before .before in
     let b = d .before .before .before in

@@ -17,13 +17,13 @@ returns : tie.Need-returns
 returns c =
     let at = c .before .before .before .before in
     let a = at .before .before .before .args in
-    with-edge (a .bits) (a .x) _ (at .before .sample-lines .ensures) _ _ (at .any-edge .ensures) (c .before .before .before .if1 .taken) (c .count-lines .ensures)
+    with-edge (a .bits) (a .s) (a .x) _ (at .before .sample-lines .ensures) _ _ (at .any-edge .ensures) (c .before .before .before .if1 .taken) (c .count-lines .ensures)
 
 returns-2 : tie.Need-returns-2
 returns-2 c =
     let at = c .before in
     let a = at .before .before .before .args in
-    without-edge (a .bits) (a .x) _ (at .before .sample-lines .ensures) _ (at .any-edge .ensures) (c .if1 .left) (lines-long (at .before) ∙ sym (counters-long (at .before .before .before)))
+    without-edge (a .bits) (a .s) (a .x) _ (at .before .sample-lines .ensures) _ (at .any-edge .ensures) (c .if1 .left) (lines-long (at .before) ∙ sym (counters-long (at .before .before .before)))
 
 pub sample-spec : {M : Type 1} → statement M
 sample-spec =

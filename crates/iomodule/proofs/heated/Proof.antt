@@ -6,8 +6,8 @@ use Rattle.iomodule.proofs.heated.Tie as tie
 
 returns : tie.Need-returns
 returns c =
-    let k = c .before .before .before .before .before .before .before in
-    let s = k .before .before .before .before in
+    let k = c .before .before .before .before .before in
+    let s = k .before .before .before .before .before in
     rw (k .take-reading .ensures, rw (toZ-ofZ (s .fits .tenths)) at (k .before .reading-of .ensures)) (taken-parts _ (s .args .m))
 
 pub heated-spec : {M : Type 1} → statement M

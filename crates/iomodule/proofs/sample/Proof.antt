@@ -19,16 +19,16 @@ unfolding sampleCall
 returns c = rw (sym (c .before .before .is-short .ensures) ∙ c .before .if1 .taken) (record { answer = c .no-room .ensures; buffer = refl })
 
 copy-out-requires : tie.Need-copy-out-requires
-copy-out-requires c κs = omega (arith, enough (c .before .before .before .before .before .before .before .before .before .before .before))
+copy-out-requires c κs = omega (arith, enough (c .before .before .before .before .before .before .before .before .before .before .before .before))
 
 returns-2 : tie.Need-returns-2
 returns-2 c =
     let copied = c .before .before in
     let made = copied .before .before .before in
-    let stepped = made .before .before .before .before .before .before .before .before in
+    let stepped = made .before .before .before .before .before .before .before .before .before in
     let e = stepped .before in
     let a = e .before .before .before .args in
-    with-notice (length (now (a .reply))) (a .bits) (a .m) (stepped .step .result) (now (a .reply)) (enough e) (stepped .step .ensures) _ (made .notice-data .result) _ (made .before .before .before .before .before .before .if2 .taken) (made .before .stable-bits .ensures) (made .notice-data .ensures) (copied .copy-out .ensures)
+    with-notice (length (now (a .reply))) (a .bits) (a .m) (stepped .step .result) (now (a .reply)) (enough e) (stepped .step .ensures) _ (made .notice-data .result) _ (made .before .before .before .before .before .before .before .if2 .taken) (made .before .stable-bits .ensures) (made .notice-data .ensures) (copied .copy-out .ensures)
 
 returns-3 : tie.Need-returns-3
 returns-3 c =

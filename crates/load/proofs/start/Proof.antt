@@ -22,7 +22,7 @@ array-set-from-outputs-4 c = search needs
 
 returns : tie.Need-returns
 unfolding startOf freshModule
-returns c = rw (c .before .before .before .before .before .before .fresh .ensures)
+returns c = rw (c .before .before .before .before .before .fresh .ensures)
 
 pub start-spec : {M : Type 1} → statement M
 start-spec =

@@ -3,14 +3,15 @@ use borrow.Author.Needs.{needs}
 use denote.Ref.{now}
 use mathlib.Core.Path.{_∙_}
 use Rattle.model.specs.Frames.{modbusTo, functionOf, modbusBody}
-use Rattle.model.specs.Modbus.{modbusActed, modbusUsed}
+use Rattle.model.specs.Wire.{usedUp, frameActed}
+use Rattle.model.specs.Modbus.{modbusWire}
 use Rattle.model.proofs.Short.{modbus-short}
 use Rattle.modbus.proofs.act.Statement.{statement}
 use Rattle.modbus.proofs.act.Tie as tie
 use Rattle.bodies.proofs.Echoes.{answered-law}
 
 returns : tie.Need-returns
-unfolding modbusActed
+unfolding frameActed
 returns c =
     let s = c .before in
     let u = s .before in
@@ -18,7 +19,7 @@ returns c =
     let a = sent .before .before .before .before .before .args in
     let f = now (a .frame) in
     c .answer .ensures
-    ∙ answered-law (a .m .modbus .address) (modbusTo f) (functionOf f) (s .serve .result) _ (rw (u .use-up .ensures, sent .modbus-body .ensures) at (s .serve .ensures)) (modbus-short (a .m .modbus .permitted) (functionOf f) (modbusBody f) (modbusUsed (a .m)) (modbusUsed (a .m)))
+    ∙ answered-law (a .m .modbus .address) f (s .serve .result) _ (rw (u .use-up .ensures, sent .modbus-body .ensures) at (s .serve .ensures)) (modbus-short (a .m .modbus .permitted) (functionOf f) (modbusBody f) (usedUp modbusWire (a .m)) (usedUp modbusWire (a .m)))
 
 pub act-spec : {M : Type 1} → statement M
 act-spec =

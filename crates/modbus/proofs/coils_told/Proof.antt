@@ -15,7 +15,7 @@ returns : tie.Need-returns
 returns c =
     let s = c .before in
     let a = s .before .args in
-    c .read-bits .ensures ∙ bits-told tt (outputStates (a .os)) (s .output-bits .result) (a .a) (a .n) (length-map (a .os) (λ (o : Output). o .on) ∙ long (s .before)) (sym (s .output-bits .ensures))
+    c .read-bits .ensures ∙ bits-told (outputStates (a .os)) (s .output-bits .result) (a .a) (a .n) (length-map (a .os) (λ (o : Output). o .on) ∙ long (s .before)) (sym (s .output-bits .ensures))
 
 pub coils-told-spec : {M : Type 1} → statement M
 coils-told-spec = tie.close (tie.spec (λ c κs. tt) (λ c κs. tt) returns)

@@ -17,7 +17,7 @@ unfolding stableBits
 returns c =
     let s = c .before in
     let a = s .before .args in
-    c .read-bits .ensures ∙ bits-told tt (map (λ (y : Line). y .stable) (a .lines)) (s .stable-bits .result) (a .a) (a .n) (length-map (a .lines) (λ (y : Line). y .stable) ∙ long (s .before)) (sym (s .stable-bits .ensures))
+    c .read-bits .ensures ∙ bits-told (map (λ (y : Line). y .stable) (a .lines)) (s .stable-bits .result) (a .a) (a .n) (length-map (a .lines) (λ (y : Line). y .stable) ∙ long (s .before)) (sym (s .stable-bits .ensures))
 
 pub inputs-told-spec : {M : Type 1} → statement M
 inputs-told-spec = tie.close (tie.spec (λ c κs. tt) (λ c κs. tt) returns)

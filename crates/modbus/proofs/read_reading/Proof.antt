@@ -3,6 +3,7 @@ use mathlib.Core.Path.{refl, sym, _∙_}
 use denote.Ref.{now}
 use Rattle.model.specs.Registers.{readingGroup, readWords}
 use Rattle.model.specs.Modbus.{startOf, secondOf, quantityWrong}
+use Rattle.model.specs.Refusals.{reading}
 use Rattle.answers.proofs.Laws.{told-law}
 use Rattle.model.specs.Temperature.{readingWords}
 use Rattle.modbus.proofs.read_reading.Statement.{statement}
@@ -14,7 +15,7 @@ unfolding readWords
 returns c =
     let a = c .before .before .before .before .args in
     let b = now (a .b) in
-    c .wrong-body .ensures ∙ refused-8 (a .m) (readWords readingGroup (readingWords (a .m .reading)) (startOf b) (secondOf b) (a .m)) (quantityWrong 125 b) (sym (c .before .before .quantity-wrong .ensures) ∙ c .before .if1 .taken) (refl)
+    c .wrong-body .ensures ∙ refused-8 (a .m) (reading (a .m) (readWords readingGroup (readingWords (a .m .reading)) (startOf b) (secondOf b))) (quantityWrong 125 b) (sym (c .before .before .quantity-wrong .ensures) ∙ c .before .if1 .taken) (refl)
 
 returns-2 : tie.Need-returns-2
 unfolding readWords
@@ -26,8 +27,8 @@ returns-2 c =
     let a = e .before .before .before .args in
     let b = now (a .b) in
     rw (c .told .ensures, r .read-input .ensures, second .word-from2 .ensures, first .word-from .ensures)
-    (told-law (a .m) tt (readWords readingGroup (readingWords (a .m .reading)) (startOf b) (secondOf b) tt)
-    ∙ passed-8 (a .m) (readWords readingGroup (readingWords (a .m .reading)) (startOf b) (secondOf b) (a .m)) (quantityWrong 125 b) (sym (e .before .quantity-wrong .ensures) ∙ e .if1 .left))
+    (told-law (a .m) (readWords readingGroup (readingWords (a .m .reading)) (startOf b) (secondOf b))
+    ∙ passed-8 (a .m) (reading (a .m) (readWords readingGroup (readingWords (a .m .reading)) (startOf b) (secondOf b))) (quantityWrong 125 b) (sym (e .before .quantity-wrong .ensures) ∙ e .if1 .left))
 
 pub read-reading-spec : {M : Type 1} → statement M
 read-reading-spec =

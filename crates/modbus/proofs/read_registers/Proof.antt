@@ -1,6 +1,7 @@
 -- `modbus::read_registers` meets its contract. Assumes nothing.
 use mathlib.Core.Path.{sym, _∙_}
 use denote.Ref.{now}
+use Rattle.model.specs.Refusals.{reading}
 use Rattle.model.specs.Modbus.{startOf, secondOf, quantityWrong, registersRead}
 use Rattle.modbus.proofs.read_registers.Statement.{statement}
 use Rattle.modbus.proofs.read_registers.Tie as tie
@@ -11,7 +12,7 @@ returns : tie.Need-returns
 returns c =
     let a = c .before .before .before .before .args in
     let b = now (a .b) in
-    c .wrong-body .ensures ∙ refused-8 (a .m) (registersRead (startOf b) (secondOf b) (a .m)) (quantityWrong 125 b) (sym (c .before .before .quantity-wrong .ensures) ∙ c .before .if1 .taken) (groups-listed _ _ _)
+    c .wrong-body .ensures ∙ refused-8 (a .m) (reading (a .m) (registersRead (startOf b) (secondOf b) (a .m))) (quantityWrong 125 b) (sym (c .before .before .quantity-wrong .ensures) ∙ c .before .if1 .taken) (groups-listed _ _ _)
 
 returns-2 : tie.Need-returns-2
 returns-2 c =
@@ -21,7 +22,7 @@ returns-2 c =
     let a = e .before .before .before .args in
     let b = now (a .b) in
     rw (c .read-group .ensures, second .word-from2 .ensures, first .word-from .ensures)
-    (passed-8 (a .m) (registersRead (startOf b) (secondOf b) (a .m)) (quantityWrong 125 b) (sym (e .before .quantity-wrong .ensures) ∙ e .if1 .left))
+    (passed-8 (a .m) (reading (a .m) (registersRead (startOf b) (secondOf b) (a .m))) (quantityWrong 125 b) (sym (e .before .quantity-wrong .ensures) ∙ e .if1 .left))
 
 pub read-registers-spec : {M : Type 1} → statement M
 read-registers-spec =

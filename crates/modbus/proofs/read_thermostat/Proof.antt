@@ -6,7 +6,7 @@ use Rattle.modbus.proofs.read_thermostat.Tie as tie
 
 returns : tie.Need-returns
 unfolding readThermostat
-returns c = rw (c .told .ensures, c .before .read-thermostat .ensures) (told-law _ tt _)
+returns c = rw (c .told .ensures, c .before .read-thermostat .ensures) (told-law _ _)
 
 pub read-thermostat-spec : {M : Type 1} → statement M
 read-thermostat-spec = tie.close (tie.spec (λ c κs. tt) (λ c κs. tt) returns)

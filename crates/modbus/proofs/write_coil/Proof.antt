@@ -11,7 +11,7 @@ use lib.Seq.{take-all}
 use native.Mathlib.Nat.{le-of-eq}
 use borrow.Author.Tests.{eq-eqb, ne-eqb}
 use Rattle.answers.proofs.Laws.{part-law}
-use Rattle.model.specs.Refusals.{judged, refuse11, onPart}
+use Rattle.model.specs.Refusals.{judged, refuse, onPart}
 use Rattle.model.specs.Outputs.{actOn}
 use Rattle.model.specs.State.{withOutputs}
 use Rattle.model.specs.Registers.{writeCoils}
@@ -32,10 +32,10 @@ returns-2 c =
     let s = put .before .before in
     let second = s .before in
     let first = second .before in
-    let e = first .before .before .before in
+    let e = first .before .before .before .before in
     let a = e .before .before .args in
     let b = now (a .b) in
-    let q = refuse11 (not (eqb (secondOf b) 0xFF00 || eqb (secondOf b) 0x0000)) (writeCoils (a .m .reading) (a .m .thermostats) (startOf b) (secondOf b / 0xFF00 ∷ []) (a .m .outputs)) in
+    let q = refuse 11 (not (eqb (secondOf b) 0xFF00 || eqb (secondOf b) 0x0000)) (writeCoils (a .m .reading) (a .m .settings .thermostats) (startOf b) (secondOf b / 0xFF00 ∷ []) (a .m .outputs)) in
     c .echo .ensures
     ∙ written-law (a .m) (onPart (withOutputs (a .m)) q) (headOf b) b (not (eqb (length b) 4)) (put .put-outputs .result) (head-law b (omega (arith, e .if1 .left)) ∙ take-all 4 b (le-of-eq (e .if1 .left)))
     (rw (put .put-outputs .ensures, s .write-coil .ensures, second .word-from2 .ensures, first .word-from .ensures) (part-law (withOutputs (a .m)) (a .m .outputs) q refl))

@@ -30,7 +30,7 @@ returns c =
     let n = k .before in
     let a = n .before .before .args in
     let b = now (a .b) in
-    let q = writeCoils (a .m .reading) (a .m .thermostats) (startOf b) (bitsFrom 0 (secondOf b) (drop 5 b)) (a .m .outputs) in
+    let q = writeCoils (a .m .reading) (a .m .settings .thermostats) (startOf b) (bitsFrom 0 (secondOf b) (drop 5 b)) (a .m .outputs) in
     c .wrong-body .ensures
     ∙ refused-8 (a .m) (answering (take 4 b) (onPart (withOutputs (a .m)) q)) (countWrong 1968 ((secondOf b + 7) / 8) b) (sym (rw (n .word-from .ensures) at (k .count-wrong .ensures)) ∙ c .before .if1 .taken) refl
 
@@ -40,12 +40,12 @@ returns-2 c =
     let put = c .before in
     let s = put .before .before in
     let first = s .before .before in
-    let e = first .before .before .before in
+    let e = first .before .before .before .before in
     let k = e .before in
     let n = k .before in
     let a = n .before .before .args in
     let b = now (a .b) in
-    let q = writeCoils (a .m .reading) (a .m .thermostats) (startOf b) (bitsFrom 0 (secondOf b) (drop 5 b)) (a .m .outputs) in
+    let q = writeCoils (a .m .reading) (a .m .settings .thermostats) (startOf b) (bitsFrom 0 (secondOf b) (drop 5 b)) (a .m .outputs) in
     c .echo .ensures
     ∙ written-law (a .m) (onPart (withOutputs (a .m)) q) (headOf b) (take 4 b) (countWrong 1968 ((secondOf b + 7) / 8) b) (put .put-outputs .result) (head-law b (omega (arith, long e)))
     (rw (put .put-outputs .ensures, s .write-coils .ensures, first .word-from2 .ensures, n .word-from .ensures, rest-whole 5 b) (part-law (withOutputs (a .m)) (a .m .outputs) q refl))
@@ -62,8 +62,8 @@ write-coils-spec =
     (λ c κs. tt)
     returns
     (λ c κs. tt)
-    (λ c. long (c .before .before .before))
-    (λ c. omega (arith, long (c .before .before .before)))
+    (λ c. long (c .before .before .before .before))
+    (λ c. omega (arith, long (c .before .before .before .before)))
     (λ c. search needs)
     (λ c κs. tt)
     (λ c κs. tt)

@@ -4,7 +4,7 @@ use mathlib.Core.Path.{refl}
 use Rattle.answers.proofs.Laws.{part-law}
 use Rattle.model.specs.Modbus.{words}
 use Rattle.model.specs.Registers.{writeCounters}
-use Rattle.model.specs.State.{withInputs, withCounters}
+use Rattle.model.specs.State.{withCounters}
 use Rattle.modbus.proofs.write_counters.Statement.{statement}
 use Rattle.modbus.proofs.write_counters.Tie as tie
 
@@ -13,7 +13,7 @@ unfolding writeCounters
 returns c =
     let kept = c .before .before in
     let a = kept .before .before .before .before .before .args in
-    rw (c .put-counters .ensures, c .before .empty .ensures, kept .before .write-counters .ensures) (part-law (λ cs. withInputs (a .m) (withCounters (a .m .inputs) cs)) (a .m .inputs .counters) (writeCounters (a .a) (words (now (a .d))) (a .m .inputs .counters)) refl)
+    rw (c .put-counters .ensures, c .before .empty .ensures, kept .before .write-counters .ensures) (part-law (withCounters (a .m)) (a .m .inputs .counters) (writeCounters (a .a) (words (now (a .d))) (a .m .inputs .counters)) refl)
 
 pub write-counters-spec : {M : Type 1} → statement M
 write-counters-spec =

@@ -11,8 +11,8 @@ use Rattle.modbus.proofs.write_thermostat.Tie as tie
 returns : tie.Need-returns
 unfolding writeThermostat
 returns c =
-    let a = c .before .before .before .before .before .args in
-    rw (c .put-thermostats .ensures, c .before .before .write-thermostat .ensures) (part-law (withThermostats (a .m)) (a .m .thermostats) (writeThermostat (a .a) (words (now (a .d))) (a .m .thermostats)) refl)
+    let a = c .before .before .before .before .before .before .args in
+    rw (c .put-thermostats .ensures, c .before .before .write-thermostat .ensures) (part-law (withThermostats (a .m)) (a .m .settings .thermostats) (writeThermostat (a .a) (words (now (a .d))) (a .m .settings .thermostats)) refl)
 
 pub write-thermostat-spec : {M : Type 1} → statement M
 write-thermostat-spec =

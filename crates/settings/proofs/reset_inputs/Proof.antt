@@ -1,10 +1,8 @@
 -- `settings::reset_inputs` meets its contract. Assumes nothing.
-use Rattle.model.specs.Counters.{resetInputs}
 use Rattle.settings.proofs.reset_inputs.Statement.{statement}
 use Rattle.settings.proofs.reset_inputs.Tie as tie
 
 returns : tie.Need-returns
-unfolding resetInputs
 returns c = rw (c .before .reset-lines .ensures)
 
 pub reset-inputs-spec : {M : Type 1} → statement M

@@ -8,6 +8,7 @@ use Rattle.lists.proofs.Done.{done-none, done-turn, done-map}
 use Rattle.model.specs.declared.Line.{Line}
 use Rattle.model.specs.State.{line, freshLine}
 use native.Mathlib.Omega.{arith}
+use Rattle.model.specs.Counters.{runsEnded}
 use Rattle.settings.proofs.reset_lines.Statement.{statement}
 use Rattle.settings.proofs.reset_lines.Tie as tie
 
@@ -28,6 +29,7 @@ loop-again c =
     (omega arith, rw (p .loop .inv .1) (done-turn (λ k (y : Line). line (y .stable) 0) (p .loop .i) a freshLine h))
 
 returns : tie.Need-returns Inv-loop μ-loop
+unfolding runsEnded
 returns c =
     let e : c .before .loop .i ≡ 16 = omega arith in
     c .before .loop .inv .1 ∙ rw e (done-map (λ (y : Line). line (y .stable) 0) 16 (c .before .before .args .a) (long (c .before .before)))

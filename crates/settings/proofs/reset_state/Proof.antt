@@ -6,7 +6,7 @@ use Rattle.settings.proofs.reset_state.Tie as tie
 returns : tie.Need-returns
 unfolding reset
 returns c =
-    let second = c .before .before .before in
+    let second = c .before in
     rw (second .permitted2 .ensures, second .before .permitted .ensures, second .before .before .reset-inputs .ensures)
 
 pub reset-state-spec : {M : Type 1} → statement M

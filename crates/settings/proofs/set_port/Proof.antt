@@ -28,7 +28,7 @@ returns-3 c =
 returns-4 : tie.Need-returns-4
 unfolding judged setPort
 returns-4 c =
-    let fit = c .before .before .before .before .before .before .before in
+    let fit = c .before .before .before .before .before in
     let got = fit .before in
     let open′ = got .before .before in
     let d = now (open′ .before .before .before .args .d) in

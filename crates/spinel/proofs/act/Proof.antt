@@ -2,15 +2,15 @@
 use borrow.Author.Needs.{needs}
 use mathlib.Core.Path.{_∙_}
 use denote.Ref.{now}
-use Rattle.model.specs.Frames.{spinelTo, signatureOf}
-use Rattle.model.specs.Spinel.{spinelActed, spinelRequest, spinelUsed}
+use Rattle.model.specs.Wire.{usedUp, frameActed}
+use Rattle.model.specs.Spinel.{spinelRequest, spinelWire}
 use Rattle.model.proofs.Short.{spinel-short}
 use Rattle.spinel.proofs.Laws.{answered-law}
 use Rattle.spinel.proofs.act.Statement.{statement}
 use Rattle.spinel.proofs.act.Tie as tie
 
 returns : tie.Need-returns
-unfolding spinelActed spinelRequest
+unfolding frameActed spinelRequest
 returns c =
     let s = c .before in
     let u = s .before in
@@ -18,7 +18,7 @@ returns c =
     let a = sent .before .before .before .before .before .before .args in
     let f = now (a .frame) in
     c .answer .ensures
-    ∙ answered-law (a .m .spinel .address) (spinelTo f) (signatureOf f) (s .serve .result) _ (rw (u .use-up .ensures, sent .spinel-data .ensures) at (s .serve .ensures)) (spinel-short (spinelRequest f (a .m)) (spinelUsed (a .m)) (spinelUsed (a .m)))
+    ∙ answered-law (a .m .spinel .address) f (s .serve .result) _ (rw (u .use-up .ensures, sent .spinel-data .ensures) at (s .serve .ensures)) (spinel-short (spinelRequest (a .m .spinel .permitted) f) (usedUp spinelWire (a .m)) (usedUp spinelWire (a .m)))
 
 pub act-spec : {M : Type 1} → statement M
 act-spec =

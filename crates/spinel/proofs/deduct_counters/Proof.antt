@@ -1,7 +1,7 @@
 -- `spinel::deduct_counters` meets its contract. Assumes nothing.
 use denote.Ref.{now}
 use Rattle.model.specs.Counters.{deductCounters}
-use Rattle.model.specs.State.{withInputs, withCounters}
+use Rattle.model.specs.State.{withCounters}
 use Rattle.answers.proofs.Laws.{part-law}
 use Rattle.spinel.proofs.Laws.{deduct-plain}
 use Rattle.spinel.proofs.deduct_counters.Statement.{statement}
@@ -10,7 +10,7 @@ use Rattle.spinel.proofs.deduct_counters.Tie as tie
 returns : tie.Need-returns
 returns c =
     let a = c .before .before .before .before .before .before .before .args in
-    rw (c .put-counters .ensures, c .before .empty .ensures, c .before .before .before .deduct-counters .ensures) (part-law (λ cs. withInputs (a .m) (withCounters (a .m .inputs) cs)) (a .m .inputs .counters) (deductCounters (now (a .d)) (a .m .inputs .counters)) (deduct-plain (now (a .d)) (a .m .inputs .counters)))
+    rw (c .put-counters .ensures, c .before .empty .ensures, c .before .before .before .deduct-counters .ensures) (part-law (withCounters (a .m)) (a .m .inputs .counters) (deductCounters (now (a .d)) (a .m .inputs .counters)) (deduct-plain (now (a .d)) (a .m .inputs .counters)))
 
 pub deduct-counters-spec : {M : Type 1} → statement M
 deduct-counters-spec =

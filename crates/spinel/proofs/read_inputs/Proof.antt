@@ -14,7 +14,7 @@ unfolding readStates stableBits
 returns c =
     let a = c .before .before .before .before .before .before .args in
     let bs = inputStates (a .m .inputs) in
-    rw (c .told .ensures, c .before .read-states .ensures, states-told (a .m) (now (a .d)) bs _ (sym (c .before .before .stable-bits .ensures))) (told-law (a .m) (a .m) (readStates (now (a .d)) bs (a .m)))
+    rw (c .told .ensures, c .before .read-states .ensures, states-told (now (a .d)) bs _ (sym (c .before .before .stable-bits .ensures))) (told-law _ _)
 
 pub read-inputs-spec : {M : Type 1} → statement M
 read-inputs-spec =

@@ -6,10 +6,7 @@ use Rattle.spinel.proofs.read_notice.Statement.{statement}
 use Rattle.spinel.proofs.read_notice.Tie as tie
 
 returns : tie.Need-returns
-unfolding readNotice
-returns c =
-    let a = c .before .before .before .args in
-    rw (c .told .ensures, c .before .read-notice .ensures) (told-law (a .m) (a .m .notice) (readNotice (now (a .d)) (a .m .notice) (a .m .notice)))
+returns c = rw (c .told .ensures, c .before .read-notice .ensures) (told-law _ _)
 
 pub read-notice-spec : {M : Type 1} → statement M
 read-notice-spec = tie.close (tie.spec (λ c κs. tt) (λ c κs. tt) returns)

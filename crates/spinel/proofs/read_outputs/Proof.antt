@@ -9,11 +9,10 @@ use Rattle.spinel.proofs.read_outputs.Statement.{statement}
 use Rattle.spinel.proofs.read_outputs.Tie as tie
 
 returns : tie.Need-returns
-unfolding readStates
 returns c =
     let a = c .before .before .before .before .before .args in
     let bs = outputStates (a .m .outputs) in
-    rw (c .told .ensures, c .before .read-states .ensures, states-told (a .m) (now (a .d)) bs _ (sym (c .before .before .output-bits .ensures))) (told-law (a .m) (a .m) (readStates (now (a .d)) bs (a .m)))
+    rw (c .told .ensures, c .before .read-states .ensures, states-told (now (a .d)) bs _ (sym (c .before .before .output-bits .ensures))) (told-law _ _)
 
 pub read-outputs-spec : {M : Type 1} → statement M
 read-outputs-spec =

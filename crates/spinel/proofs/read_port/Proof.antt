@@ -6,10 +6,7 @@ use Rattle.spinel.proofs.read_port.Statement.{statement}
 use Rattle.spinel.proofs.read_port.Tie as tie
 
 returns : tie.Need-returns
-unfolding readPort
-returns c =
-    let a = c .before .before .before .args in
-    rw (c .told .ensures, c .before .read-port .ensures) (told-law (a .m) (a .m .spinel) (readPort (now (a .d)) (a .m .spinel) (a .m .spinel)))
+returns c = rw (c .told .ensures, c .before .read-port .ensures) (told-law _ _)
 
 pub read-port-spec : {M : Type 1} → statement M
 read-port-spec = tie.close (tie.spec (λ c κs. tt) (λ c κs. tt) returns)

@@ -7,10 +7,7 @@ use Rattle.spinel.proofs.read_pulses.Statement.{statement}
 use Rattle.spinel.proofs.read_pulses.Tie as tie
 
 returns : tie.Need-returns
-unfolding listRead
-returns c =
-    let a = c .before .before .before .before .args in
-    rw (c .told .ensures, c .before .read-pulses .ensures) (told-law (a .m) (tt {0}) (listRead (pulseShown (a .m .outputs)) (now (a .d)) tt))
+returns c = rw (c .told .ensures, c .before .read-pulses .ensures) (told-law _ _)
 
 pub read-pulses-spec : {M : Type 1} → statement M
 read-pulses-spec = tie.close (tie.spec (λ c κs. tt) (λ c κs. tt) returns)

@@ -6,10 +6,7 @@ use Rattle.spinel.proofs.read_sampling.Statement.{statement}
 use Rattle.spinel.proofs.read_sampling.Tie as tie
 
 returns : tie.Need-returns
-unfolding readSampling
-returns c =
-    let a = c .before .before .before .before .args in
-    rw (c .told .ensures, c .before .read-sampling .ensures) (told-law (a .m) (tt {0}) (readSampling (now (a .d)) (a .m .inputs) tt))
+returns c = rw (c .told .ensures, c .before .read-sampling .ensures) (told-law _ _)
 
 pub read-sampling-spec : {M : Type 1} → statement M
 read-sampling-spec = tie.close (tie.spec (λ c κs. tt) (λ c κs. tt) returns)

@@ -6,10 +6,7 @@ use Rattle.spinel.proofs.read_thermostats.Statement.{statement}
 use Rattle.spinel.proofs.read_thermostats.Tie as tie
 
 returns : tie.Need-returns
-unfolding readThermostats
-returns c =
-    let a = c .before .before .before .before .args in
-    rw (c .told .ensures, c .before .read-thermostats .ensures) (told-law (a .m) (a .m .thermostats) (readThermostats (now (a .d)) (a .m .thermostats) (a .m .thermostats)))
+returns c = rw (c .told .ensures, c .before .read-thermostats .ensures) (told-law _ _)
 
 pub read-thermostats-spec : {M : Type 1} → statement M
 read-thermostats-spec = tie.close (tie.spec (λ c κs. tt) (λ c κs. tt) returns)

@@ -10,8 +10,8 @@ use Rattle.spinel.proofs.set_presets.Tie as tie
 returns : tie.Need-returns
 unfolding setPresets
 returns c =
-    let a = c .before .before .before .before .before .args in
-    rw (c .bare .ensures, c .before .before .set-presets .ensures) (part-law (withPresets (a .m)) (a .m .presets) (setPresets (now (a .d)) (a .m .presets)) refl)
+    let a = c .before .before .before .before .before .before .args in
+    rw (c .bare .ensures, c .before .before .set-presets .ensures) (part-law (withPresets (a .m)) (a .m .settings .presets) (setPresets (now (a .d)) (a .m .settings .presets)) refl)
 
 pub set-presets-spec : {M : Type 1} → statement M
 set-presets-spec = tie.close (tie.spec (λ c κs. tt) (λ c κs. tt) returns)

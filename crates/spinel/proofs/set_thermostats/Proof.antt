@@ -10,8 +10,8 @@ use Rattle.spinel.proofs.set_thermostats.Tie as tie
 returns : tie.Need-returns
 unfolding setThermostats
 returns c =
-    let a = c .before .before .before .before .before .args in
-    rw (c .put-thermostats .ensures, c .before .before .set-thermostats .ensures) (part-law (withThermostats (a .m)) (a .m .thermostats) (setThermostats (now (a .d)) (a .m .thermostats)) refl)
+    let a = c .before .before .before .before .before .before .args in
+    rw (c .put-thermostats .ensures, c .before .before .set-thermostats .ensures) (part-law (withThermostats (a .m)) (a .m .settings .thermostats) (setThermostats (now (a .d)) (a .m .settings .thermostats)) refl)
 
 pub set-thermostats-spec : {M : Type 1} → statement M
 set-thermostats-spec = tie.close (tie.spec (λ c κs. tt) (λ c κs. tt) returns)

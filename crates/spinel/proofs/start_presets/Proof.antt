@@ -10,8 +10,8 @@ use Rattle.spinel.proofs.start_presets.Tie as tie
 returns : tie.Need-returns
 unfolding startPresets actOn
 returns c =
-    let a = c .before .before .before .before .before .before .before .args in
-    rw (c .put-outputs .ensures, c .before .before .start-presets .ensures) (part-law (withOutputs (a .m)) (a .m .outputs) (startPresets (a .m .presets) (a .m .reading) (a .m .thermostats) (now (a .d)) (a .m .outputs)) refl)
+    let a = c .before .before .before .before .before .before .before .before .args in
+    rw (c .put-outputs .ensures, c .before .before .start-presets .ensures) (part-law (withOutputs (a .m)) (a .m .outputs) (startPresets (a .m .settings .presets) (a .m .reading) (a .m .settings .thermostats) (now (a .d)) (a .m .outputs)) refl)
 
 pub start-presets-spec : {M : Type 1} → statement M
 start-presets-spec = tie.close (tie.spec (λ c κs. tt) (λ c κs. tt) returns)
