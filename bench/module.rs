@@ -1,4 +1,4 @@
-// The sample call's rules in plain Rust, on `&mut Module`: what the proved call is compared with.
+// The state and the sample call's rules in plain Rust, on `&mut Module`: what the proved call is compared with.
 
 #[derive(Clone, Copy, Default)]
 pub struct Line {
@@ -34,6 +34,13 @@ pub enum Reading {
     Fault,
 }
 
+#[derive(Clone, Copy)]
+pub struct Port {
+    pub address: u8,
+    pub speed: u8,
+    pub permitted: bool,
+}
+
 pub struct Module {
     pub lines: [Line; 16],
     pub modes: [u8; 16],
@@ -47,31 +54,38 @@ pub struct Module {
     pub format: u8,
     pub mask: u16,
     pub signature: u8,
-    pub address: u8,
+    pub spinel: Port,
+    pub modbus: Port,
 }
 
 impl Module {
+    pub fn fresh() -> Module {
+        let port = Port { address: 0x31, speed: 6, permitted: false };
+        Module {
+            lines: Default::default(),
+            modes: [0; 16],
+            counters: [0; 16],
+            sampling: 20,
+            outputs: Default::default(),
+            presets: Default::default(),
+            thermostats: Default::default(),
+            reading: Reading::Fault,
+            last: Reading::Fault,
+            format: 0,
+            mask: 0,
+            signature: 0,
+            spinel: port,
+            modbus: port,
+        }
+    }
+
     // Both edges counted, the notice on for all inputs; the first four outputs pulse, the others for `rest` samples.
     pub fn start(sampling: u8, rest: u32) -> Module {
         let mut outputs = [Output { on: true, left: rest }; 16];
         for o in &mut outputs[..4] {
             o.left = 3_000_000;
         }
-        Module {
-            lines: Default::default(),
-            modes: [3; 16],
-            counters: [0; 16],
-            sampling,
-            outputs,
-            presets: Default::default(),
-            thermostats: Default::default(),
-            reading: Reading::Fault,
-            last: Reading::Fault,
-            format: 0x61,
-            mask: 0xFFFF,
-            signature: 2,
-            address: 0x31,
-        }
+        Module { modes: [3; 16], sampling, outputs, format: 0x61, mask: 0xFFFF, signature: 2, ..Module::fresh() }
     }
 
     // The refusal's number, or the length of the notice.
@@ -113,7 +127,7 @@ impl Module {
         }
         if self.format != 0 && edges & self.mask != 0 {
             let states = self.lines.iter().enumerate().fold(0u16, |a, (i, l)| a | (l.stable as u16) << i);
-            let head = [0x2A, 0x61, 0, 7, self.address, self.signature, 0x0D, (states >> 8) as u8, states as u8];
+            let head = [0x2A, 0x61, 0, 7, self.spinel.address, self.signature, 0x0D, (states >> 8) as u8, states as u8];
             let sum = head.iter().fold(0u8, |a, b| a.wrapping_add(*b));
             reply[..9].copy_from_slice(&head);
             reply[9] = 255 - sum;
