@@ -17,7 +17,7 @@ use Rattle.model.specs.State.{output, halfSeconds, preset, freshOutput, 
 use Rattle.model.specs.Times.{halfSecondSamples}
 use Rattle.model.specs.Refusals.{Request, accepting, telling, refuse}
 use Rattle.model.specs.Counters.{isNumber, itemsOf, someData}
-use Rattle.model.specs.Temperature.{active, freeAt}
+use Rattle.model.specs.Temperature.{active, settingShown, freeAt}
 
 -- Pulses ------------------------------------------------------------------------------
 
@@ -123,7 +123,7 @@ presetShown ps n = presetOf ps n .kind ∷ presetOf ps n .time .0 ∷ []
 unfoldable pub modeByte : List Thermostat → List Preset → ℕ → List ℕ
 modeByte hs ps n =
     let h = getD hs (n - 1) freshThermostat in
-    cond (active h) (0xA0 + h .flags / 16 % 8) (presetOf ps n .kind) ∷ []
+    cond (active h) (0xA0 + settingShown h) (presetOf ps n .kind) ∷ []
 
 abbrev pub outputStates : List Output → List Bool
 outputStates os = map (λ (o : Output). o .on) os

@@ -74,6 +74,10 @@ onFall h = eqb (h .flags / 16 % 2) 1
 abbrev pub sensor : Thermostat → ℕ
 sensor h = h .flags % 16
 
+-- SS and K in three bits
+abbrev pub settingShown : Thermostat → ℕ
+settingShown h = h .flags / 16 % 8
+
 -- what may be stored: ERR at most 2; an active one also needs the only sensor, TEMPy not over TEMPx, and a TIME other than 0 for pulses
 unfoldable pub thermostatFits : Thermostat → Bool
 thermostatFits h =

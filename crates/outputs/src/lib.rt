@@ -1,17 +1,13 @@
-// The outputs: sets, pulses counted in samples, remaining time, holding by a thermostat.
+// The outputs: sets, pulses counted in samples, remaining time.
 ghost use mathlib.Core.Path.{_≡_};
 ghost use mathlib.Core.List.{map};
-ghost use lib.ListN.{getD};
-ghost use Rattle.model.specs.State.{output, freshThermostat};
+ghost use Rattle.model.specs.State.{output};
 ghost use Rattle.model.specs.Times.{halfSecondSamples, secondSamples};
 ghost use Rattle.model.specs.Outputs.{pulsed, remaining};
-ghost use Rattle.model.specs.Temperature.{free};
 ghost use Rattle.outputs.specs.Passes.{anyPulse};
 use model::HalfSeconds;
 use model::Output;
-use model::Reading;
 use model::Seconds;
-use model::Thermostat;
 
 // A time in half seconds, 500 samples each.
 pub fn half_second_samples(t: HalfSeconds) -> u32
@@ -97,32 +93,4 @@ pub fn remaining_time(left: u32) -> u8
         return 255;
     }
     ((left + 499) / 500) as u8
-}
-
-// The thermostat of a place, a fresh one where there is none.
-pub fn thermostat_at(hs: [Thermostat; 16], k: usize) -> Thermostat
-    ensures { λ r. ⌜ r ≡ getD hs k freshThermostat ⌝ }
-{
-    if k < 16 {
-        let h = hs[k];
-        return h;
-    }
-    Thermostat {
-        flags: 0,
-        tempx: 0,
-        tempy: 0,
-        time: Seconds(0),
-        err: 0,
-    }
-}
-
-// Whether a thermostat leaves its output to commands.
-pub fn is_free(r: Reading, h: Thermostat) -> bool
-    ensures { λ q. ⌜ q ≡ free r h ⌝ }
-{
-    let off = h.flags < 128;
-    match r {
-        Reading::Valid(t, _) => off | ((h.tempy <= t) & (t <= h.tempx)),
-        Reading::Fault => off,
-    }
 }

@@ -115,9 +115,8 @@ fn show_mode(hs: [Thermostat; 16], ps: [Preset; 16], n: u8, out: Data) -> Data
     ensures { λ r. ⌜ r ≡ extended out (modeByte hs ps n) ⌝ }
 {
     let h = relays::thermostat_at(hs, n);
-    let flags = h.flags;
-    if 128 <= flags {
-        return octets::push(out, 0xA0 + flags / 16 % 8);
+    if holding::is_active(h) {
+        return octets::push(out, 0xA0 + holding::setting_shown(h));
     }
     let p = relays::preset_at(ps, n);
     octets::push(out, p.kind)

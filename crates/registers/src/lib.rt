@@ -168,7 +168,7 @@ pub fn read_thermostat(hs: [Thermostat; 16], a: u16, n: u16) -> Told
     if groups::no_thermostat(a, n as usize) {
         return octets::refuse(9);
     }
-    let h = outputs::thermostat_at(hs, groups::place(groups::THERMOSTATS, a) / 4);
+    let h = holding::thermostat_at(hs, groups::place(groups::THERMOSTATS, a) / 4);
     octets::tell(show_words(thermostat_words(h), 0, 4))
 }
 

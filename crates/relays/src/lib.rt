@@ -53,7 +53,7 @@ pub fn preset_at(ps: [Preset; 16], n: u8) -> Preset
 pub fn thermostat_at(hs: [Thermostat; 16], n: u8) -> Thermostat
     ensures { λ r. ⌜ r ≡ getD hs (n - 1) freshThermostat ⌝ }
 {
-    outputs::thermostat_at(hs, octets::index_of(n))
+    holding::thermostat_at(hs, octets::index_of(n))
 }
 
 // Whether the thermostat of output n leaves it to commands.
@@ -61,7 +61,7 @@ pub fn free_at(r: Reading, hs: [Thermostat; 16], n: u8) -> bool
     ensures { λ q. ⌜ q ≡ freeAt r hs n ⌝ }
 {
     let h = thermostat_at(hs, n);
-    outputs::is_free(r, h)
+    holding::is_free(r, h)
 }
 
 // Output n on or off, with so many samples of a pulse to go.

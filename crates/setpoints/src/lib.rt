@@ -22,14 +22,14 @@ pub struct ThermostatsSet {
     pub thermostats: [Thermostat; 16],
 }
 
-// Whether a thermostat's settings are allowed. Flags FSSKTTTT.
+// Whether a thermostat's settings are allowed.
 pub fn fits(h: Thermostat) -> bool
     ensures { λ r. ⌜ r ≡ thermostatFits h ⌝ }
 {
     let s = h.time;
-    let timed = (h.flags / 32 % 4 < 2) | (s.0 != 0);
+    let timed = (holding::action_of(h) < 2) | (s.0 != 0);
     let limits = (h.tempy <= h.tempx) & timed;
-    (h.err <= 2) & ((h.flags < 128) | ((h.flags % 16 == 1) & limits))
+    (h.err <= 2) & (!holding::is_active(h) | ((holding::sensor_of(h) == 1) & limits))
 }
 
 // The thermostat of the group of eight bytes from place i on.

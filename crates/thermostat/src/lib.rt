@@ -52,7 +52,7 @@ fn crossed_limit(h: Thermostat, last: Reading, now: i16) -> bool
     let Reading::Valid(t, _) = last else {
         return false;
     };
-    if h.flags / 16 % 2 == 1 {
+    if holding::is_on_fall(h) {
         return fell(h.tempy, t, now);
     }
     rose(h.tempx, t, now)
@@ -72,10 +72,10 @@ fn cross(on: bool, h: Thermostat, last: Reading, now: i16, o: Output) -> Output
 fn heat(last: Reading, now: i16, h: Thermostat, o: Output) -> Output
     ensures { λ r. ⌜ r ≡ heated last now h o ⌝ }
 {
-    if h.flags < 128 {
+    if !holding::is_active(h) {
         return o;
     }
-    let ss = h.flags / 32 % 4;
+    let ss = holding::action_of(h);
     match ss {
         0 => level(true, h, now, o),
         1 => level(false, h, now, o),
@@ -87,7 +87,7 @@ fn heat(last: Reading, now: i16, h: Thermostat, o: Output) -> Output
 fn fail(h: Thermostat, o: Output) -> Output
     ensures { λ r. ⌜ r ≡ failed h o ⌝ }
 {
-    if h.flags < 128 {
+    if !holding::is_active(h) {
         return o;
     }
     let err = h.err;

@@ -3,7 +3,6 @@ use mir.Syntax.{w16}
 use mir.Val.{SFits}
 use mir.Facts.{toZ-ofZ}
 use borrow.Author.Needs.{needs}
-use Rattle.lists.proofs.Choices.{below}
 use Rattle.model.specs.Temperature.{thermostatFits}
 use Rattle.setpoints.proofs.fits.Statement.{statement}
 use Rattle.setpoints.proofs.fits.Tie as tie
@@ -14,7 +13,7 @@ returns c =
     let a = c .before .before .before .before .before .before .before .before .args in
     let fx : SFits w16 (a .h .tempx) = search needs in
     let fy : SFits w16 (a .h .tempy) = search needs in
-    rw (toZ-ofZ fx, toZ-ofZ fy, below (a .h .flags) 128)
+    rw (toZ-ofZ fx, toZ-ofZ fy, c .sensor-of .ensures, c .before .is-active .ensures, c .before .before .before .before .before .before .action-of .ensures)
 
 pub fits-spec : {M : Type 1} → statement M
-fits-spec = tie.close (tie.spec returns)
+fits-spec = tie.close (tie.spec (λ c κs. tt) (λ c κs. tt) (λ c κs. tt) returns)

@@ -1,5 +1,4 @@
-use Prim.Native.Nat.{_/_, _%_}
-use borrow.Author.Tests.{eq-eqb, ne-eqb}
+use mathlib.Core.Path.{sym, _∙_}
 use mir.Syntax.{w16}
 use mir.Val.{SFits}
 use mir.Facts.{toZ-ofZ}
@@ -19,7 +18,7 @@ returns-2 c =
     let s = k .before .before in
     let ft : SFits w16 (k .last .given .0 .0) = search needs in
     let fy : SFits w16 (s .args .h .tempy) = search needs in
-    rw (k .last .given .1, eq-eqb (s .args .h .flags / 16 % 2) 1 (c .before .before .if1 .taken))
+    rw (k .last .given .1, sym (c .before .before .before .is-on-fall .ensures) ∙ c .before .before .if1 .taken)
     (rw (toZ-ofZ fy, toZ-ofZ ft, toZ-ofZ (s .fits .now)) at (c .fell .ensures))
 
 returns-3 : tie.Need-returns-3
@@ -29,10 +28,10 @@ returns-3 c =
     let s = k .before .before in
     let ft : SFits w16 (k .last .given .0 .0) = search needs in
     let fx : SFits w16 (s .args .h .tempx) = search needs in
-    rw (k .last .given .1, ne-eqb (s .args .h .flags / 16 % 2) 1 (c .before .before .if1 .left))
+    rw (k .last .given .1, sym (c .before .before .before .is-on-fall .ensures) ∙ c .before .before .if1 .left)
     (rw (toZ-ofZ fx, toZ-ofZ ft, toZ-ofZ (s .fits .now)) at (c .rose .ensures))
 
 pub crossed-limit-spec : {M : Type 1} → statement M
 crossed-limit-spec =
     tie.close
-    (tie.spec (λ c. search needs) (λ c. search needs) returns (λ c κs. tt) returns-2 (λ c κs. tt) returns-3)
+    (tie.spec (λ c. search needs) (λ c. search needs) returns (λ c κs. tt) (λ c κs. tt) returns-2 (λ c κs. tt) returns-3)

@@ -1,11 +1,11 @@
--- `outputs::thermostat_at` meets its contract: past the end `getD` gives its default. Assumes nothing.
+-- `holding::thermostat_at` meets its contract: past the end `getD` gives its default. Assumes nothing.
 use borrow.Author.Needs.{needs}
 use native.Mathlib.Omega.{arith}
 use mathlib.Core.Path.{_≡_, sym}
 use lib.ListN.{length, List·getD-eq-default}
 use Rattle.model.specs.State.{freshThermostat}
-use Rattle.outputs.proofs.thermostat_at.Statement.{statement}
-use Rattle.outputs.proofs.thermostat_at.Tie as tie
+use Rattle.holding.proofs.thermostat_at.Statement.{statement}
+use Rattle.holding.proofs.thermostat_at.Tie as tie
 
 long : (c : tie.Start) → length (c .args .t1) ≡ 16
 long c = search needs
