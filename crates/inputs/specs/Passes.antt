@@ -11,17 +11,13 @@ use Rattle.model.specs.declared.Line.{Line}
 use Rattle.model.specs.Samples.{edges, inputsSampled}
 use Rattle.inputs.specs.declared.Sampled.{Sampled}
 
--- some line has an edge
-unfoldable pub anyEdge : List Line → List Line → Bool
-anyEdge was now = any (λ b. b) (edges was now)
-
--- some line that the mask picks has one
-unfoldable pub anyMasked : ℕ → List Line → List Line → Bool
-anyMasked mask was now = any (λ b. b) (mapi (λ i b. b && bitAt mask i) (edges was now))
+-- some line that the mask picks has an edge
+unfoldable pub anyMasked : ℕ → List Bool → Bool
+anyMasked mask edged = any (λ b. b) (mapi (λ i b. b && bitAt mask i) edged)
 
 -- the stable states as a number
 unfoldable pub stableBits : List Line → ℕ
 stableBits xs = bitsNumber (map (λ (y : Line). y .stable) xs)
 
 unfoldable pub sampledOf : ℕ → Settings → Inputs → Sampled
-sampledOf bits s x = record { inputs = inputsSampled bits s x; edged = anyEdge (x .lines) (inputsSampled bits s x .lines) }
+sampledOf bits s x = record { inputs = inputsSampled bits s x; edges = edges (x .lines) (inputsSampled bits s x .lines) }

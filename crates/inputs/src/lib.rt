@@ -4,15 +4,15 @@ ghost use Prim.Native.Nat.{_<_};
 ghost use Rattle.lists.specs.Tests.{any};
 ghost use Rattle.lists.specs.Numbers.{bitAt};
 ghost use Rattle.model.specs.Samples.{lineSampled, linesSampled, isEdge, edges, selectedEdge, counted, countersSampled};
-ghost use Rattle.inputs.specs.Passes.{anyEdge, anyMasked, sampledOf, stableBits};
+ghost use Rattle.inputs.specs.Passes.{anyMasked, sampledOf, stableBits};
 use model::Inputs;
 use model::Line;
 use model::Settings;
 
-// The inputs after a sample, and whether any of them had an edge.
+// The inputs after a sample, and which of them had an edge.
 pub struct Sampled {
     pub inputs: Inputs,
-    pub edged: bool,
+    pub edges: [bool; 16],
 }
 
 // Bit i of a sample or of a mask.
@@ -103,30 +103,39 @@ pub fn count_lines(
     next
 }
 
-// Whether any line has an edge.
-pub fn any_edge(was: [Line; 16], now: [Line; 16]) -> bool
-    ensures { λ r. ⌜ r ≡ anyEdge was now ⌝ }
+// Which lines have an edge.
+pub fn edges_of(was: [Line; 16], now: [Line; 16]) -> [bool; 16]
+    ensures { λ r. ⌜ r ≡ edges was now ⌝ }
 {
-    let mut found = false;
+    let mut found = [false; 16];
     for i in 0..16usize {
         let before = was[i];
         let after = now[i];
-        let edge = is_edge(before, after);
+        found[i] = is_edge(before, after);
+    }
+    found
+}
+
+// Whether there is any.
+pub fn any_edge(edged: [bool; 16]) -> bool
+    ensures { λ r. ⌜ r ≡ any (λ b. b) edged ⌝ }
+{
+    let mut found = false;
+    for i in 0..16usize {
+        let edge = edged[i];
         found = found | edge;
     }
     found
 }
 
-// Whether any line with its mask bit has an edge.
-pub fn any_masked(mask: u16, was: [Line; 16], now: [Line; 16]) -> bool
-    ensures { λ r. ⌜ r ≡ anyMasked mask was now ⌝ }
+// Whether there is any on a line with its mask bit.
+pub fn any_masked(mask: u16, edged: [bool; 16]) -> bool
+    ensures { λ r. ⌜ r ≡ anyMasked mask edged ⌝ }
 {
     let mut found = false;
     for i in 0..16usize {
-        let before = was[i];
-        let after = now[i];
+        let edge = edged[i];
         let bit = bit_at(mask, i);
-        let edge = is_edge(before, after);
         found = found | (edge & bit);
     }
     found
@@ -153,20 +162,17 @@ pub fn sample(s: Settings, x: Inputs, bits: u16) -> Sampled
 {
     let was = x.lines;
     let now = sample_lines(was, s.sampling, bits);
+    let edged = edges_of(was, now);
     let mut next = x;
     next.lines = now;
-    if any_edge(was, now) {
+    if any_edge(edged) {
         let modes = s.modes;
         let counters = x.counters;
         let counted = count_lines(counters, modes, was, now);
         next.counters = counted;
-        return Sampled {
-            inputs: next,
-            edged: true,
-        };
     }
     Sampled {
         inputs: next,
-        edged: false,
+        edges: edged,
     }
 }

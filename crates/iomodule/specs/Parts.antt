@@ -1,27 +1,18 @@
 -- What the private functions of the calls give.
 use Prim.Native.Nat.{ℕ}
-use mathlib.Core.Bool.{Bool, _&&_}
-use mathlib.Core.List.{List}
 use Rattle.lists.specs.Data.{dataOf}
 use Rattle.lists.specs.Numbers.{bytes}
 use Rattle.lists.specs.declared.Data.{Data}
-use Rattle.model.specs.declared.Line.{Line}
 use Rattle.model.specs.declared.Module.{Module}
-use Rattle.model.specs.declared.Notice.{Notice}
 use Rattle.model.specs.Samples.{edges}
 use Rattle.model.specs.Frames.{spinelReply}
-use Rattle.model.specs.Notice.{isOn, noticed}
+use Rattle.model.specs.Notice.{noticed}
 use Rattle.model.specs.Calls.{sampled}
-use Rattle.inputs.specs.Passes.{anyMasked}
 use Rattle.iomodule.specs.declared.Stepped.{Stepped}
 
 -- the notice of the input states as reply data
 unfoldable pub noticeData : ℕ → ℕ → ℕ → Data
 noticeData address signature bits = dataOf (spinelReply address signature 0x0D (bytes 2 bits))
-
--- a notice is due, where some edge was seen
-unfoldable pub noticeDue : Notice → Bool → List Line → List Line → Bool
-noticeDue n edged was now = edged && (isOn n && anyMasked (n .mask) was now)
 
 -- the state after a sample, and whether a notice is due
 unfoldable pub steppedOf : ℕ → Module → Stepped

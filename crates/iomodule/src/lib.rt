@@ -4,16 +4,16 @@ ghost use Prim.Native.Nat.{_≤_};
 ghost use lib.ListN.{length, take};
 ghost use Rattle.lists.specs.Data.{held, over};
 ghost use Rattle.model.specs.State.{freshModule};
+ghost use Rattle.model.specs.Notice.{noticed};
 ghost use Rattle.model.specs.Temperature.{readingOf, taken};
 ghost use Rattle.model.specs.Refusals.{silent, bufferShort};
 ghost use Rattle.model.specs.Calls.{sampleCall, temperatureCall, spinelCall, modbusCall, answerOf, Answered};
 ghost use Rattle.model.specs.Demand1.{RefusalsHold};
 ghost use Rattle.model.specs.Cycles.{CyclesConserved};
-ghost use Rattle.iomodule.specs.Parts.{noticeData, noticeDue, steppedOf};
+ghost use Rattle.iomodule.specs.Parts.{noticeData, steppedOf};
 use answers::Handled;
 use lists::Data;
 use model::Answer;
-use model::Line;
 use model::Module;
 use model::Notice;
 
@@ -64,16 +64,13 @@ fn notice_data(address: u8, signature: u8, bits: u16) -> Data
 }
 
 // Whether a notice is due after these edges.
-fn notice_due(n: Notice, edged: bool, was: [Line; 16], now: [Line; 16]) -> bool
-    ensures { λ r. ⌜ r ≡ noticeDue n edged was now ⌝ }
+fn notice_due(n: Notice, edged: [bool; 16]) -> bool
+    ensures { λ r. ⌜ r ≡ noticed n edged ⌝ }
 {
-    if !edged {
-        return false;
-    }
     if n.format == 0 {
         return false;
     }
-    inputs::any_masked(n.mask, was, now)
+    inputs::any_masked(n.mask, edged)
 }
 
 // Debounce and counting, then the pulses; and whether a notice is due.
@@ -81,15 +78,13 @@ fn step(m: Module, bits: u16) -> Stepped
     ensures { λ r. ⌜ r ≡ steppedOf bits m ⌝ }
 {
     let x = m.inputs;
-    let was = x.lines;
     let os = m.outputs;
     let kept = m.settings;
     let s = inputs::sample(kept, x, bits);
     let stepped = s.inputs;
-    let now = stepped.lines;
+    let edged = s.edges;
     let pulsed = outputs::pulse_outputs(os);
-    let notice = kept.notice;
-    let noticed = notice_due(notice, s.edged, was, now);
+    let noticed = notice_due(kept.notice, edged);
     let mut next = m;
     next.inputs = stepped;
     next.outputs = pulsed;

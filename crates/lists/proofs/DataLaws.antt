@@ -53,11 +53,11 @@ module _ (xs : List ℕ) (n i : ℕ) (fits : n ≤ length xs) where
   extend-turn d h = rw (rest-cons h)
 
 -- a store at i of a buffer whose first i elements are those of xs
-pub over-turn : (xs old : List ℕ) (i : ℕ) → i < length xs → i < length old → set (take i xs ++ drop i old) i (getD xs i 0) ≡ take (i + 1) xs ++ drop (i + 1) old
-over-turn xs old i h k =
-    ap (λ (l : List ℕ). set (take i xs ++ l) i (getD xs i 0)) (drop-cons old i 0 k)
-    ∙ set-at (take i xs) (getD old i 0) (drop (suc i) old) (getD xs i 0) i (length-take-le i xs (omega arith))
-    ∙ rw (add-one, take-suc xs i 0 h, append-snoc)
+pub over-turn : {A : Type 0} (d : A) (xs old : List A) (i : ℕ) → i < length xs → i < length old → set (take i xs ++ drop i old) i (getD xs i d) ≡ take (i + 1) xs ++ drop (i + 1) old
+over-turn {A} d xs old i h k =
+    ap (λ (l : List A). set (take i xs ++ l) i (getD xs i d)) (drop-cons old i d k)
+    ∙ set-at (take i xs) (getD old i d) (drop (suc i) old) (getD xs i d) i (length-take-le i xs (omega arith))
+    ∙ rw (add-one, take-suc xs i d h, append-snoc)
 
 -- bytes beyond what was written are as they were
 pub over-beyond : (bs old : List ℕ) (i : ℕ) → getD (over bs old) (length bs + i) 0 ≡ getD old (length bs + i) 0

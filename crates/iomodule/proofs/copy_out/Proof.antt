@@ -21,7 +21,7 @@ loop-again : tie.Need-loop-again Inv-loop μ-loop
 loop-again c =
     let at = c .before .loop in
     let from = c .before .before .args in
-    (omega arith, simp length-set (at .inv .1), rw (at .inv .2) (over-turn (from .t1) (now (from .reply)) (at .i) (omega arith) (omega arith)))
+    (omega arith, simp length-set (at .inv .1), rw (at .inv .2) (over-turn 0 (from .t1) (now (from .reply)) (at .i) (omega arith) (omega arith)))
 
 returns : tie.Need-returns Inv-loop μ-loop
 returns c =

@@ -25,7 +25,7 @@ loop-again c =
     let l = c .before .before in
     let bs = l .before .args .bs in
     let t = c .before .loop-test .taken in
-    (omega arith, rw (c .byte-at .ensures, l .loop .inv .1) (over-turn bs (replicate 16 0) (l .loop .i) (rw (long (l .before)) t) t))
+    (omega arith, rw (c .byte-at .ensures, l .loop .inv .1) (over-turn 0 bs (replicate 16 0) (l .loop .i) (rw (long (l .before)) t) t))
 
 returns : tie.Need-returns Inv-loop μ-loop
 returns c =

@@ -30,7 +30,7 @@ loop-again c =
     let l = c .before .before .before in
     let os = l .before .args .t1 in
     let t = c .before .before .loop-test .taken in
-    (omega arith, rw (c .output-word .ensures, ← word-of os (l .loop .i), l .loop .inv .1) (over-turn (map outputWord os) (replicate 16 0) (l .loop .i) (rw (long (l .before)) t) t))
+    (omega arith, rw (c .output-word .ensures, ← word-of os (l .loop .i), l .loop .inv .1) (over-turn 0 (map outputWord os) (replicate 16 0) (l .loop .i) (rw (long (l .before)) t) t))
 
 returns : tie.Need-returns Inv-loop μ-loop
 returns c =
