@@ -1,25 +1,30 @@
 """One-place changes of a definition: every plausible slip at every place of its clauses, one at a time.
 
 A number one up or down; < for ≤, true for false, and for or; a sum, a difference, a remainder exchanged or one side left out; a condition
-turned round, exchanged or taken for granted; a refusal left out or by another number; an item, a store, a reset left out; a field exchanged
-with another of its type.
+turned round, exchanged or taken for granted; a refusal left out or by another number; an item, a store, a reset left out; two neighbours in
+a list exchanged; a field or a definition exchanged with another of its type.
 """
 from dataclasses import dataclass
 
 from translate import BINDS, Apply, Field, Function, Let, Name, Nil, Number, Op, Record
 
-NAMES = {"leb": "ltb", "ltb": "leb", "leZ": "ltZ", "ltZ": "leZ", "true": "false", "false": "true"}
-ALIKE = ["tempx tempy", "reading last", "spinel modbus", "address speed", "number value", "first count", "edges collected", "format mask"]
-FIELDS = {name: [other for other in names.split() if other != name] for names in ALIKE for name in names.split()}
+# names of one type, and fields of one type
+TWINS = ["leb ltb", "leZ ltZ", "true false", "withSpinel withModbus", "withCounters withModes", "spinelWire modbusWire",
+         "spinelTo modbusTo", "spinelBroadcast modbusBroadcast", "spinelAddressWrong modbusAddressWrong",
+         "spinelBroadcastWrong modbusBroadcastWrong", "sumWrong crcWrong", "signatureOf instructionOf", "ackOf exceptionOf"]
+ALIKE = ["tempx tempy", "reading last", "spinel modbus", "address speed", "number value", "first count", "edges collected", "format mask",
+         "shapeWrong checkWrong broadcastWrong", "least broadcast"]
+NAMES, FIELDS = ({name: [other for other in names.split() if other != name] for names in listed for name in names.split()}
+                 for listed in (TWINS, ALIKE))
 SIGNS = {"&&": "||", "||": "&&", "+": "-", "-": "+", "/": "%", "%": "/"}
 # which sides of an operator may stand alone
 SIDES = {"&&": "left right", "||": "left right", "+": "left right", "++": "left right", "-": "left", "/": "left", "%": "left", "*": "left",
          "∷": "right"}
 # functions that may be left out: how many arguments they take, and which of them stands for the whole
-PUT = "Lines Modes Counters Sampling Inputs Outputs Presets Thermostats Notice Spinel Modbus".split()
-LEFT_OUT = {"not": (1, 0), "set": (3, 0), "take": (2, 1), "drop": (2, 1), "foldl": (3, 1), "permit": (2, 1), "reset": (1, 0),
-            "withReading": (4, 0), **{"with" + part: (2, 0) for part in PUT}}
-REFUSALS = ["refuse8", "refuse9", "refuse10", "refuse11", "refuse12"]
+PUT = "Lines Modes Counters Sampling Inputs Outputs Settings Presets Thermostats Notice Spinel Modbus".split()
+LEFT_OUT = {"not": (1, 0), "set": (3, 0), "take": (2, 1), "drop": (2, 1), "foldl": (3, 1), "permit": (2, 1), "usedUp": (2, 1),
+            "reset": (1, 0), "runsEnded": (1, 0), "answering": (2, 1), "withReading": (4, 0), **{"with" + part: (2, 0) for part in PUT}}
+REFUSALS = range(7, 13)  # what a request may be refused by
 
 
 @dataclass(frozen=True)
@@ -57,7 +62,8 @@ def compound(x, depth):
     if isinstance(x, Op):
         deeper = depth + (isinstance(x.right, Op) and x.right.sign == x.sign and BINDS[x.sign][1])
         return "%s %s %s" % (shown(x.left, deeper, looser(x.left, x, False)), x.sign, shown(x.right, deeper, looser(x.right, x, True)))
-    return " ".join(shown(y, depth, True) for y in (x.head,) + x.arguments)
+    of_field = isinstance(x.head, Field)
+    return " ".join([shown(x.head, depth + of_field, not of_field)] + [shown(y, depth, True) for y in x.arguments])
 
 
 def looser(part, whole, right):
@@ -76,14 +82,16 @@ def at_place(x):
         yield Number(x.value + 1, x.hexed)
         if x.value:
             yield Number(x.value - 1, x.hexed)
-    elif isinstance(x, Name) and x.text in NAMES:
-        yield Name(NAMES[x.text])
+    elif isinstance(x, Name):
+        yield from map(Name, NAMES.get(x.text, []))
     elif isinstance(x, Field):
         yield from (Field(x.of, name) for name in FIELDS.get(x.name, []))
     elif isinstance(x, Op):
         if x.sign in SIGNS:
             yield Op(SIGNS[x.sign], x.left, x.right)
         yield from (getattr(x, side) for side in SIDES.get(x.sign, "").split())
+        if x.sign == "∷" and isinstance(x.right, Op) and x.right.sign == "∷":
+            yield Op("∷", x.right.left, Op("∷", x.left, x.right.right))
     elif isinstance(x, Apply) and isinstance(x.head, Name):
         yield from of_function(x, x.head.text, x.arguments)
 
@@ -101,9 +109,11 @@ def of_function(x, name, given):
         yield from (by("not", x), by("eqb", *given))
     elif name == "within" and len(given) == 3:
         yield from (by("leb", given[0], given[2]), by("leb", given[2], given[1]))
-    elif name in REFUSALS and len(given) == 2:
-        yield given[1]
-        yield from (by(other, *given) for other in REFUSALS if other != name)
+    elif name == "refuse" and len(given) == 3:
+        yield given[2]
+        yield from (by("refuse", Number(number, False), *given[1:]) for number in REFUSALS if number != given[0].value)
+    elif name == "decided" and len(given) == 4:
+        yield by("decided", given[0], given[2], given[1], given[3])
     elif name in LEFT_OUT and len(given) == LEFT_OUT[name][0]:
         yield given[LEFT_OUT[name][1]]
     elif name.startswith("with") and name in LEFT_OUT and len(given) == LEFT_OUT[name][0] - 1:

@@ -1,10 +1,18 @@
 """What is proved of every state and call, tried on the states and calls of the cases: Refusals and Permissions of Demand1, PartsKept of
-Parts, Conserved of Cycles, and the step of Wraps.
+Parts, Conserved of Cycles, and the step of Wraps; and how every request is judged, tried on each set of the conditions 7 to 12.
 """
+import itertools
+
 from held import Fact, Held
 from translate import python
 
 LONG = 400  # calls: demand 3 is tried on cases of at most so many
+REFUSALS = range(7, 13)  # what a request may be refused by
+
+
+def first_of(checks):
+    """The number of the first condition that holds, or 0."""
+    return next((check["number"] for check in checks if check["holds"]), 0)
 
 
 # Laws about one call in a state: functions of a way to call definitions by their names, the state and the call -------------------
@@ -13,8 +21,8 @@ def refusals(f, m, c):
     """Refusals: the first condition that holds refuses, and what a refusal leaves and tells."""
     out = f("Calls.step", m, c)
     number, reply = out["refusal"], out["reply"]
-    first = next((check["number"] for check in f("Demand1.checks", m, c["room"], c["act"]) if check["holds"]), 0)
-    return (number == first <= 12 and len(reply) <= 256
+    first = first_of(f("Demand1.checks", m, c["room"], c["act"]))
+    return (number == first <= f("Demand1.greatest") and len(reply) <= 256
             and (not 1 <= number <= 6 or out["after"] == m and reply == ())
             and (number < 7 or out["after"] == f("Demand1.permissionEnded", c["act"], m))
             and (number < 7 or reply == f("Demand1.refusalReply", number, c["act"], m))
@@ -95,10 +103,30 @@ class Turn(Fact):
         return f("Calls.run", f("Wraps.counted", self.count), cycle) != f("Wraps.counted", (self.count + 2) % 65536)
 
 
+# A law about a request -----------------------------------------------------------------------
+
+class Judged(Fact):
+    """judged-follows of Refused: the first of the claim's conditions refuses, the part is then as before, and there are no data; and
+    judged-either of Judged: where none holds, it does what it asks for."""
+
+    def __init__(self, world, numbers):
+        super().__init__(world, "Refused.judged-follows of " + (" ".join(map(str, numbers)) or "none"), "law")
+        self.request = {"holds": lambda number: number in numbers, "after": "after", "reply": (1,)}
+
+    def differs(self, values, key):
+        """By the request with these conditions and no other."""
+        f = naming(values)
+        first = first_of(f("Demand1.requestChecks", self.request))
+        part, reply = ("before", ()) if first else ("after", (1,))
+        return f("Refusals.judged", "before", self.request) != {"refusal": first, "part": part, "reply": reply}
+
+
 def laws(world, cases):
-    """All of them: those about a call on every case, demand 3 on the cases from a fresh module."""
+    """All of them: those about a call on every case, demand 3 on the cases from a fresh module, that about a request on every set."""
     for law in (refusals, permissions, parts_kept):
         yield from (OnCalls(world, law, case) for case in cases)
     short = [case for case in cases if case.start == "freshModule" and sum(count for line in case.lines for _, count in line.calls) <= LONG]
     yield from (Conserved(world, case).noted() for case in short)
     yield from (Turn(world, count).noted() for count in (0, 254, 65533, 65534, 65535))
+    sets = (numbers for count in range(len(REFUSALS) + 1) for numbers in itertools.combinations(REFUSALS, count))
+    yield from (Judged(world, numbers).noted() for numbers in sets)

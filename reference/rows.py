@@ -690,6 +690,8 @@ UNREACHED = [
               (S(0xF0, a=0xFE), (0, spinel_frame(0xFE, 2, 0, [0xFE, 6])))),
     unreached("ownBroadcast", "an own address FF is the broadcast: only 20H, 23H, 25H, and no reply", state("Spinel", "port 0xFF 6 false"),
               (S(0x30, a=0xFF), (6, [])), (S(0x20, 0x81, a=0xFF), (0, [])), (S(0x30, a=0xFE), (0, spinel_frame(0xFF, 2, 0, [0, 1])))),
+    unreached("ownFF", "a Modbus address FF is an own one as any other", state("Modbus", "port 0xFF 6 false"),
+              (R(5, 0, 0xFF00, a=0xFF), modbus_ack(5, 0, 0, 0xFF, 0, a=0xFF))),
     unreached("ownZero", "a Modbus address 0 is the broadcast: only 05 and 0F, and no reply", state("Modbus", "port 0 6 true"),
               (R(1, 0, 16, a=0), (6, [])), (R(6, 1, 5, a=0), (6, [])), (R(5, 0, 0xFF00, a=0), (0, [])), (S(0x30), ack(0, 1))),
 ]

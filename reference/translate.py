@@ -16,8 +16,8 @@ ROOT = os.path.dirname(os.path.dirname(os.path.abspath(__file__)))
 FOLDERS = {"lists": "crates/lists/specs", "model": "crates/model/specs", "proofs": "crates/model/proofs"}
 FILES = {
     "lists": "Tests Mapi Walk Numbers Chunks Entries Data".split(),
-    "model": """State Times Samples Frames Refusals Counters Temperature Outputs Notice Registers Spinel Modbus Call Calls Demand1 Tally
-             Cycles Parts""".split(),
+    "model": """State Times Samples Frames Refusals Wire Counters Temperature Outputs Notice Registers Spinel Modbus Call Calls Demand1
+             Tally Cycles Parts""".split(),
     "proofs": "Exchanges Wraps Readings Puts GroupTable ClaimTable".split(),
 }
 
@@ -378,8 +378,14 @@ INLINE = {"eqb": "(%s == %s)", "leb": "(%s <= %s)", "ltb": "(%s < %s)", "not": "
 SIGNS = {"∷": "((%s,) + %s)", "++": "(%s + %s)", "&&": "(%s and %s)", "||": "(%s or %s)", "-": "subtract(%s, %s)", "/": "divide(%s, %s)",
          "%": "remainder(%s, %s)", "^": "(%s ** %s)", "+": "(%s + %s)", "*": "(%s * %s)", "⇒": "(%s, %s)"}
 # definitions that a change may bring into a file which does not use them
-BESIDE = {"refuse%d" % number: "Refusals.refuse%d" % number for number in range(8, 13)}
-CONSTANTS = {"true": "True", "false": "False", "zero": "0", "binary32": "None"}
+BESIDE = {name: file + "." + name for file, names in [
+    ("State", "withSpinel withModbus withCounters withModes"),
+    ("Frames", "spinelTo modbusTo spinelBroadcast modbusBroadcast signatureOf instructionOf"),
+    ("Refusals", "spinelAddressWrong modbusAddressWrong spinelBroadcastWrong modbusBroadcastWrong sumWrong crcWrong ackOf exceptionOf"),
+    ("Spinel", "spinelWire"), ("Modbus", "modbusWire")] for name in names.split()}
+CONSTANTS = {"true": "True", "false": "False", "zero": "0", "binary32": "None", "tt": "()"}
+# fields that hold a function which is asked for the same again and again
+REMEMBERED = {"input"}
 
 
 def python(key):
@@ -436,12 +442,12 @@ class Writer:
         return "%s[%r]" % (self.written(x.of, bound), x.name)
 
     def record(self, x, bound):
-        return "{%s}" % ", ".join("%r: %s" % (name, self.held(value, bound)) for name, value in x.fields)
+        return "{%s}" % ", ".join("%r: %s" % (name, self.held(name, value, bound)) for name, value in x.fields)
 
-    def held(self, x, bound):
-        """What a record holds; a function there is asked for the same again and again, and so remembers."""
+    def held(self, name, x, bound):
+        """What a record's field holds; a function there may remember."""
         text = self.written(x, bound)
-        return "remembering(%s)" % text if isinstance(x, Function) else text
+        return "remembering(%s)" % text if name in REMEMBERED and isinstance(x, Function) else text
 
     def let(self, x, bound):
         return "(lambda %s: %s)(%s)" % (variable(x.name), self.written(x.body, bound | {x.name}), self.written(x.value, bound))

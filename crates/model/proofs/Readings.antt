@@ -3,14 +3,17 @@ use Prim.Native.Nat.{ℕ, _+_, _*_, _%_}
 use native.Mathlib.Omega.{arith}
 use mathlib.Core.Path.{_≡_, refl}
 use mathlib.Core.Bool.{true, false}
-use mathlib.Core.List.{List, [], _∷_}
+use mathlib.Core.List.{List, [], _∷_, map}
 use lib.IntN.{pos}
 use Rattle.model.specs.State.{freshModule}
 use Rattle.model.specs.Call.{Call, Act}
+use Rattle.model.specs.Refusals.{telling, refuse}
+use Rattle.model.specs.Spinel.{spinelWire}
+use Rattle.model.specs.Demand1.{Check, greatest, frameChecks, isBroadcast}
 use Rattle.model.specs.Tally.{Tally, Event, freshTally, uncollected, clears, stayed}
 use Rattle.model.specs.Cycles.{events, finalTally, counterNow, CyclesConserved}
 use Rattle.model.proofs.Computing.{computing}
-use Rattle.model.proofs.Exchanges.{sampleOf, temperatureOf, asked, requested, written}
+use Rattle.model.proofs.Exchanges.{sampleOf, temperatureOf, asked, askedAt, sentTo, requested, written}
 
 -- The claim ------------------------------------------------------------------------------
 
@@ -70,6 +73,15 @@ abbrev none : Event
 none = accepted (sampleOf 0)
 
 pub record Rows : Type 0 where
+  -- what goes to all modules, and the greatest number
+  pub toAllSpinel : isBroadcast (askedAt 0xFF 0x20 (0x81 ∷ []) .act) ≡ true
+  pub toUniversal : isBroadcast (askedAt 0xFE 0x20 (0x81 ∷ []) .act) ≡ false
+  pub toAllModbus : isBroadcast (sentTo 0x00 0x05 (0x00 ∷ 0x00 ∷ 0xFF ∷ 0x00 ∷ []) .act) ≡ true
+  pub notToFF : isBroadcast (sentTo 0xFF 0x05 (0x00 ∷ 0x00 ∷ 0xFF ∷ 0x00 ∷ []) .act) ≡ false
+  pub twelve : greatest ≡ 12
+  -- a refusal is added under its own number alone, and checks stand in their order
+  pub refusesOne : map (refuse 9 true (telling []) .holds) (8 ∷ 9 ∷ 10 ∷ []) ≡ (false ∷ true ∷ false ∷ [])
+  pub frameOrder : map (λ (c : Check). c .number) (frameChecks spinelWire 0x31 []) ≡ (2 ∷ 3 ∷ 4 ∷ 5 ∷ 6 ∷ [])
   -- uncollected is edges less collected
   pub uncollected5 : uncollected (holding 8 3) 1 ≡ 5
   -- what clears input 1, and what does not
@@ -110,6 +122,13 @@ pub record Rows : Type 0 where
 pub rows : Rows
 unfolding computing
 rows = record {
+  toAllSpinel = refl;
+  toUniversal = refl;
+  toAllModbus = refl;
+  notToFF = refl;
+  twelve = refl;
+  refusesOne = refl;
+  frameOrder = refl;
   uncollected5 = refl;
   by61 = refl;
   notBy61Byte = refl;

@@ -10,7 +10,7 @@ use Rattle.model.specs.declared.Reading.the-variants.{Valid}
 use lib.Ieee.{ofBits, binary32}
 use Rattle.model.proofs.Computing.{computing}
 use Rattle.model.proofs.Exchanges.{Plays, _⇒_, sampleOf, temperatureOf, asked, askedAt, sentTo, requested, silently, answers, answersFrom}
-use Rattle.model.proofs.Exchanges.{refuses, refusesFrom, announces, shows}
+use Rattle.model.proofs.Exchanges.{refuses, refusesFrom, announces, givesFrom, shows}
 
 pub record UnreachedTable : Type 0 where
   -- sampling number 0: a differing sample flips
@@ -158,6 +158,10 @@ pub record UnreachedTable : Type 0 where
       (askedAt 0xFF 0x20 (0x81 ∷ []) ⇒ silently 0) ∷
       (askedAt 0xFE 0x30 [] ⇒ answersFrom 0xFF (0x00 ∷ 0x01 ∷ [])) ∷
       [])
+  -- a Modbus address FF is an own one as any other
+  pub ownFF : Plays (withModbus freshModule (port 0xFF 6 false)) (
+      (sentTo 0xFF 0x05 (0x00 ∷ 0x00 ∷ 0xFF ∷ 0x00 ∷ []) ⇒ givesFrom 0xFF 0x05 (0x00 ∷ 0x00 ∷ 0xFF ∷ 0x00 ∷ [])) ∷
+      [])
   -- a Modbus address 0 is the broadcast: only 05 and 0F, and no reply
   pub ownZero : Plays (withModbus freshModule (port 0 6 true)) (
       (sentTo 0x00 0x01 (0x00 ∷ 0x00 ∷ 0x00 ∷ 0x10 ∷ []) ⇒ silently 6) ∷
@@ -187,5 +191,6 @@ unreachedTable = record {
   formatOther = refl;
   ownUniversal = refl;
   ownBroadcast = refl;
+  ownFF = refl;
   ownZero = refl;
 }

@@ -11,9 +11,9 @@ use Rattle.model.specs.declared.Module.{Module}
 use Rattle.model.specs.Call.{Call}
 use Rattle.model.specs.Calls.{step, run}
 use Rattle.script.specs.Words.{leading, split, uncr, body}
-use Rattle.script.specs.Lines.{parsed, byWords}
+use Rattle.script.specs.Lines.{parsedLine, byParts}
 use Rattle.script.proofs.Leading.{leading-le}
-use Rattle.script.proofs.Firsts.{tail-part}
+use Rattle.lists.proofs.ChunkLaws.{rest-whole}
 use Rattle.player.specs.Scripts.{inLine, lines, lineCalls, linesCalls}
 
 -- calls after calls
@@ -59,19 +59,19 @@ lines-last w (b ∷ l) h = go (eqb b 10) refl h (lines-last (w ++ b ∷ []) l)
 -- a line ends inside the script
 pub line-fits : (s : List ℕ) (at n : ℕ) → n ≡ leading inLine (take (length s - at) (drop at s)) → at ≤ length s → at + n ≤ length s
 line-fits s at n p h =
-    let here : n ≡ leading inLine (drop at s) = rw (tail-part s at) at p in
+    let here : n ≡ leading inLine (drop at s) = rw (rest-whole at s) at p in
     let short : leading inLine (drop at s) ≤ length s - at = rw (length-drop at s) at (leading-le inLine (drop at s)) in
     omega arith
 
 -- one turn of the loop over a script's lines, and its two ends
 module _ (m : Module) (s : List ℕ) (at : ℕ) where
   pub lines-over : length s ≤ at → m ≡ run m (linesCalls (lines [] (drop at s)))
-  unfolding lines linesCalls lineCalls parsed byWords body uncr leading split run
+  unfolding lines linesCalls lineCalls parsedLine byParts body uncr leading split run
   lines-over h = rw (drop-of-length-le s {i = at} h)
 
-  module _ (n : ℕ) (after : Module) (p : n ≡ leading inLine (take (length s - at) (drop at s))) (q : after ≡ run m (lineCalls (parsed (take (at + n - at) (drop at s))))) where
+  module _ (n : ℕ) (after : Module) (p : n ≡ leading inLine (take (length s - at) (drop at s))) (q : after ≡ run m (lineCalls (parsedLine (take (at + n - at) (drop at s))))) where
     here : n ≡ leading inLine (drop at s)
-    here = rw (tail-part s at) at p
+    here = rw (rest-whole at s) at p
 
     same : at + n - at ≡ leading inLine (drop at s)
     same = omega (arith, here)

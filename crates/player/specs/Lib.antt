@@ -1,2 +1,2 @@
-pub mod Texts
+pub mod Answers
 pub mod Scripts

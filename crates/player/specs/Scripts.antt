@@ -9,9 +9,9 @@ use Rattle.model.specs.Call.{Call, call, sample, temperature, spinel, modbus}
 use Rattle.model.specs.declared.Module.{Module}
 use Rattle.model.specs.Refusals.{Out}
 use Rattle.model.specs.Calls.{spinelCall, modbusCall}
-use Rattle.script.specs.declared.Line.{Line}
+use Rattle.script.specs.declared.Parsed.{Parsed}
 use Rattle.script.specs.Words.{other}
-use Rattle.script.specs.Lines.{parsed}
+use Rattle.script.specs.Lines.{parsedLine}
 
 -- any byte but a line feed
 abbrev pub inLine : ℕ → Bool
@@ -27,7 +27,7 @@ lines w [] = w ∷ []
 lines w (b ∷ l) = cond (eqb b 10) (w ∷ lines [] l) (lines (w ++ b ∷ []) l)
 
 -- the calls of a line, with a reply buffer of 256 bytes: as many samples as it says, one temperature, one frame, or none
-unfoldable pub lineCalls : Line → List Call
+unfoldable pub lineCalls : Parsed → List Call
 lineCalls x =
     cond (eqb (x .kind) 1) (replicate (x .times) (call 256 (sample (x .bits))))
     (cond (eqb (x .kind) 2) (call 256 (temperature true (x .tenths)) ∷ [])
@@ -38,7 +38,7 @@ lineCalls x =
 -- the calls of some lines
 unfoldable pub linesCalls : List (List ℕ) → List Call
 linesCalls [] = []
-linesCalls (l ∷ ls) = lineCalls (parsed l) ++ linesCalls ls
+linesCalls (l ∷ ls) = lineCalls (parsedLine l) ++ linesCalls ls
 
 -- the calls of a script
 abbrev pub scriptCalls : List ℕ → List Call

@@ -4,13 +4,9 @@ use native.Mathlib.Omega.{arith}
 use mathlib.Core.Path.{_≡_}
 use mathlib.Core.List.{List}
 use lib.ListN.{length, take, drop, length-drop}
-use lib.Seq.{take-all}
+use Rattle.lists.proofs.ChunkLaws.{rest-whole}
 use Rattle.script.specs.Words.{blank, solid, leading, skipped, used, firstWord}
 use Rattle.script.proofs.Leading.{leading-le}
-
--- a part up to the end
-pub tail-part : (l : List ℕ) (a : ℕ) → take (length l - a) (drop a l) ≡ drop a l
-tail-part l a = take-all (length l - a) (drop a l) (rw length-drop (omega arith))
 
 pub used-le : (l : List ℕ) → used l ≤ length l
 unfolding used skipped
@@ -22,10 +18,10 @@ used-le l =
 module _ (l : List ℕ) (a n : ℕ) (p : a ≡ leading blank l) (q : n ≡ leading solid (take (length l - a) (drop a l))) where
   pub used-law : a + n ≡ used l
   unfolding used skipped
-  used-law = rw (q, tail-part l a, p)
+  used-law = rw (q, rest-whole a l, p)
 
   pub first-law : take (a + n - a) (drop a l) ≡ firstWord l
   unfolding firstWord skipped
   first-law =
       let e : a + n - a ≡ n = omega arith in
-      rw (e, q, tail-part l a, p)
+      rw (e, q, rest-whole a l, p)

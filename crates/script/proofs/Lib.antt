@@ -1,7 +1,6 @@
 pub mod Leading
 pub mod Sames
 pub mod Firsts
-pub mod Digits
 pub mod Splits
 pub mod Bodies
 pub mod Calls

@@ -1,4 +1,4 @@
--- A line's words, one by one. Assumes nothing.
+-- A line's parts, one by one. Assumes nothing.
 use Prim.Native.Nat.{ℕ, suc}
 use native.Mathlib.Omega.{arith}
 use mathlib.Core.Path.{_≡_, refl, sym, ap, _∙_}
@@ -7,7 +7,7 @@ use mathlib.Core.List.{List, [], _∷_, _++_, append-nil, append-assoc}
 use lib.ListN.{length, take, drop}
 use lib.Seq.{drop-drop}
 use borrow.Author.Tests.{eqb-true, eqb-false}
-use Rattle.script.specs.Words.{over, blank, solid, leading, split, words, skipped, used, firstWord, restOf}
+use Rattle.script.specs.Words.{over, blank, solid, leading, split, parts, skipped, used, firstWord, restOf}
 
 -- a blank between words is passed over
 skip-blank : (b : ℕ) (l : List ℕ) → blank b ≡ true → split [] (b ∷ l) ≡ split [] l
@@ -33,36 +33,36 @@ split-word a w (b ∷ l) = go (blank b) refl (split-word a (w ++ b ∷ []) l)
     go false e h = rw (e, h, append-assoc w (b ∷ []) (take (leading solid l) l))
 
 -- blanks alone
-words-none : (l : List ℕ) → length l ≡ leading blank l → words l ≡ []
+parts-none : (l : List ℕ) → length l ≡ leading blank l → parts l ≡ []
 unfolding split leading
-words-none [] h = refl
-words-none (b ∷ l) h = go (blank b) refl h (words-none l)
+parts-none [] h = refl
+parts-none (b ∷ l) h = go (blank b) refl h (parts-none l)
   where
     go : (t : Bool) → blank b ≡ t → suc (length l) ≡ cond t (suc (leading blank l)) 0 → (length l ≡ leading blank l → split [] l ≡ []) → cond t (split [] l) (split (b ∷ []) l) ≡ []
     go true e h f = f (omega arith)
     go false e h f = absurd (let z : ⊥ = omega arith in z)
 
 -- a first word, and the rest
-words-first : (l : List ℕ) → (length l ≡ leading blank l → ⊥) → words l ≡ firstWord l ∷ words (drop (leading solid (skipped l)) (skipped l))
+parts-first : (l : List ℕ) → (length l ≡ leading blank l → ⊥) → parts l ≡ firstWord l ∷ parts (drop (leading solid (skipped l)) (skipped l))
 unfolding split leading firstWord skipped
-words-first [] h = absurd (h refl)
-words-first (b ∷ l) h = go (blank b) refl h (words-first l)
+parts-first [] h = absurd (h refl)
+parts-first (b ∷ l) h = go (blank b) refl h (parts-first l)
   where
     go : (t : Bool)
         → blank b ≡ t
         → (suc (length l) ≡ cond t (suc (leading blank l)) 0 → ⊥)
-        → ((length l ≡ leading blank l → ⊥) → words l ≡ firstWord l ∷ words (drop (leading solid (skipped l)) (skipped l)))
-        → words (b ∷ l) ≡ firstWord (b ∷ l) ∷ words (drop (leading solid (skipped (b ∷ l))) (skipped (b ∷ l)))
+        → ((length l ≡ leading blank l → ⊥) → parts l ≡ firstWord l ∷ parts (drop (leading solid (skipped l)) (skipped l)))
+        → parts (b ∷ l) ≡ firstWord (b ∷ l) ∷ parts (drop (leading solid (skipped (b ∷ l))) (skipped (b ∷ l)))
     go true e h f = rw e (f (λ q. h (ap suc q)))
     go false e h f = rw e (split-word b [] l ∙ ap (λ n. take n (b ∷ l) ∷ split [] (drop n (b ∷ l))) (sym (lead-solid b l e)))
 
-words-some : (l : List ℕ) → (length l ≡ leading blank l → ⊥) → words l ≡ firstWord l ∷ words (restOf l)
+parts-some : (l : List ℕ) → (length l ≡ leading blank l → ⊥) → parts l ≡ firstWord l ∷ parts (restOf l)
 unfolding restOf used skipped
-words-some l h = words-first l h ∙ ap (λ r. firstWord l ∷ words r) (drop-drop (leading solid (skipped l)) (leading blank l) l)
+parts-some l h = parts-first l h ∙ ap (λ r. firstWord l ∷ parts r) (drop-drop (leading solid (skipped l)) (leading blank l) l)
 
 -- both, by the test
-pub over-words : (l : List ℕ) → over l ≡ true → words l ≡ []
-over-words l h = words-none l (eqb-true _ _ h)
+pub over-parts : (l : List ℕ) → over l ≡ true → parts l ≡ []
+over-parts l h = parts-none l (eqb-true _ _ h)
 
-pub more-words : (l : List ℕ) → over l ≡ false → words l ≡ firstWord l ∷ words (restOf l)
-more-words l h = words-some l (eqb-false _ _ h)
+pub more-parts : (l : List ℕ) → over l ≡ false → parts l ≡ firstWord l ∷ parts (restOf l)
+more-parts l h = parts-some l (eqb-false _ _ h)

@@ -41,9 +41,9 @@ split (a ∷ w) [] = (a ∷ w) ∷ []
 split [] (b ∷ l) = cond (blank b) (split [] l) (split (b ∷ []) l)
 split (a ∷ w) (b ∷ l) = cond (blank b) ((a ∷ w) ∷ split [] l) (split (a ∷ w ++ b ∷ []) l)
 
--- all its words
-abbrev pub words : List ℕ → List (List ℕ)
-words l = split [] l
+-- all its words: its parts between blanks
+abbrev pub parts : List ℕ → List (List ℕ)
+parts l = split [] l
 
 -- no word is left
 abbrev pub over : List ℕ → Bool

@@ -1,11 +1,10 @@
 // One line of a script as a call.
 ghost use mathlib.Core.Path.{_≡_};
-ghost use Rattle.script.specs.Words.{blank, solid, other, plain, leading, uncr, body, words, over, used, firstWord, restOf, same};
-ghost use Rattle.script.specs.Numbers.{digit, digits, decimal, hex, positive, negative, signed};
-ghost use Rattle.script.specs.Lines.{lineOf, wrong, sampled, sample, tenthsLine, tenthsOf, temperature, faultWord, framed, keyword, called, parsed};
+ghost use Rattle.script.specs.Words.{blank, solid, other, plain, leading, uncr, body, parts, over, used, firstWord, restOf, same};
+ghost use Rattle.script.specs.Lines.{ofKind, wrong, sampled, sample, goodTenths, tenthsOf, temperature, faultWord, framed, keyword, called, parsedLine};
 
 // What a line asks for, by `kind`: 0 nothing, 1 sample, 2 temperature, 3 fault, 4 Spinel frame, 5 Modbus frame, 6 wrong.
-pub struct Line {
+pub struct Parsed {
     pub kind: u8,
     pub reason: u8,
     pub bits: u16,
@@ -69,62 +68,6 @@ fn plains(s: &[u8]) -> usize
     ensures { λ r. ⌜ r ≡ leading plain (now (s .entry)) ⌝ }
 {
     stop_at(s, 35)
-}
-
-// The value of a digit, or 16.
-fn digit_of(b: u8) -> u8
-    ensures { λ r. ⌜ r ≡ digit b ⌝ }
-{
-    if (48 <= b) & (b <= 57) {
-        return b - 48;
-    }
-    if (65 <= b) & (b <= 70) {
-        return b - 55;
-    }
-    if (97 <= b) & (b <= 102) {
-        return b - 87;
-    }
-    16
-}
-
-// The number of some digits, or 65,536.
-fn digits_of(base: u8, w: &[u8]) -> u32
-    ensures { λ r. ⌜ r ≡ digits base 0 (now (w .entry)) ⌝ }
-{
-    let mut n: u32 = 0;
-    let mut i = 0;
-    while i < w.len() {
-        let d = digit_of(w[i]);
-        if base <= d {
-            return 65536;
-        }
-        n = n * (base as u32) + (d as u32);
-        if 65536 <= n {
-            return 65536;
-        }
-        i += 1;
-    }
-    n
-}
-
-// A decimal number without a sign, or 65,536.
-fn decimal_of(w: &[u8]) -> u32
-    ensures { λ r. ⌜ r ≡ decimal (now (w .entry)) ⌝ }
-{
-    if w.len() == 0 {
-        return 65536;
-    }
-    digits_of(10, w)
-}
-
-// A number of exactly n hex digits, or 65,536.
-fn hex_of(n: usize, w: &[u8]) -> u32
-    ensures { λ r. ⌜ r ≡ hex n (now (w .entry)) ⌝ }
-{
-    if w.len() == n {
-        return digits_of(16, w);
-    }
-    65536
 }
 
 // Whether two words are the same.
@@ -203,10 +146,10 @@ fn body_of(line: &[u8]) -> &[u8]
 }
 
 // A line of a kind, all else 0.
-fn line_of(kind: u8) -> Line
-    ensures { λ r. ⌜ r ≡ lineOf kind ⌝ }
+fn of_kind(kind: u8) -> Parsed
+    ensures { λ r. ⌜ r ≡ ofKind kind ⌝ }
 {
-    Line {
+    Parsed {
         kind,
         reason: 0,
         bits: 0,
@@ -218,10 +161,10 @@ fn line_of(kind: u8) -> Line
 }
 
 // A wrong line and its reason.
-fn wrong_of(reason: u8) -> Line
+fn wrong_of(reason: u8) -> Parsed
     ensures { λ r. ⌜ r ≡ wrong reason ⌝ }
 {
-    Line {
+    Parsed {
         kind: 6,
         reason,
         bits: 0,
@@ -233,7 +176,7 @@ fn wrong_of(reason: u8) -> Line
 }
 
 // A sample of 16 bits, some times.
-fn sampled_of(b: u32, n: u32) -> Line
+fn sampled_of(b: u32, n: u32) -> Parsed
     ensures { λ r. ⌜ r ≡ sampled b n ⌝ }
 {
     if 65536 <= b {
@@ -244,7 +187,7 @@ fn sampled_of(b: u32, n: u32) -> Line
     }
     let bits = b as u16;
     let times = n as u16;
-    Line {
+    Parsed {
         kind: 1,
         reason: 0,
         bits,
@@ -256,18 +199,18 @@ fn sampled_of(b: u32, n: u32) -> Line
 }
 
 // The words after `sample`.
-fn sample_of(s: &[u8]) -> Line
-    ensures { λ r. ⌜ r ≡ sample (words (now (s .entry))) ⌝ }
+fn sample_of(s: &[u8]) -> Parsed
+    ensures { λ r. ⌜ r ≡ sample (parts (now (s .entry))) ⌝ }
 {
     if is_over(s) {
         return wrong_of(6);
     }
-    let b = hex_of(4, first_word(s));
+    let b = digits::hex_of(4, first_word(s));
     let t = rest_of(s);
     if is_over(t) {
         return sampled_of(b, 1);
     }
-    let n = decimal_of(first_word(t));
+    let n = digits::decimal_of(first_word(t));
     let u = rest_of(t);
     if is_over(u) {
         return sampled_of(b, n);
@@ -275,45 +218,11 @@ fn sample_of(s: &[u8]) -> Line
     wrong_of(4)
 }
 
-// A number without a minus as a pattern of 16 bits, or 65,536.
-fn positive_of(n: u32) -> u32
-    ensures { λ r. ⌜ r ≡ positive n ⌝ }
-{
-    if n < 32768 { n } else { 65536 }
-}
-
-// A number after a minus as a pattern of 16 bits, or 65,536.
-fn negative_of(n: u32) -> u32
-    ensures { λ r. ⌜ r ≡ negative n ⌝ }
-{
-    if n < 32769 {
-        (65536 - n) % 65536
-    } else {
-        65536
-    }
-}
-
-// A signed number as a pattern of 16 bits, or 65,536.
-fn signed_word(w: &[u8]) -> u32
-    ensures { λ r. ⌜ r ≡ signed (now (w .entry)) ⌝ }
-{
-    if w.len() == 0 {
-        return 65536;
-    }
-    if w[0] == 45 {
-        return negative_of(decimal_of(&w[1..]));
-    }
-    if w[0] == 43 {
-        return positive_of(decimal_of(&w[1..]));
-    }
-    positive_of(decimal_of(w))
-}
-
 // A good temperature.
-fn good_of(tenths: i16) -> Line
-    ensures { λ r. ⌜ r ≡ tenthsLine tenths ⌝ }
+fn good_of(tenths: i16) -> Parsed
+    ensures { λ r. ⌜ r ≡ goodTenths tenths ⌝ }
 {
-    Line {
+    Parsed {
         kind: 2,
         reason: 0,
         bits: 0,
@@ -325,7 +234,7 @@ fn good_of(tenths: i16) -> Line
 }
 
 // A temperature by its pattern.
-fn tenths_of(p: u32) -> Line
+fn tenths_of(p: u32) -> Parsed
     ensures { λ r. ⌜ r ≡ tenthsOf p ⌝ }
 {
     if 65536 <= p {
@@ -343,8 +252,8 @@ fn is_fault(w: &[u8]) -> bool
 }
 
 // The words after `temperature`.
-fn temperature_of(s: &[u8]) -> Line
-    ensures { λ r. ⌜ r ≡ temperature (words (now (s .entry))) ⌝ }
+fn temperature_of(s: &[u8]) -> Parsed
+    ensures { λ r. ⌜ r ≡ temperature (parts (now (s .entry))) ⌝ }
 {
     if is_over(s) {
         return wrong_of(6);
@@ -355,16 +264,16 @@ fn temperature_of(s: &[u8]) -> Line
         return wrong_of(4);
     }
     if is_fault(w) {
-        return line_of(3);
+        return of_kind(3);
     }
-    tenths_of(signed_word(w))
+    tenths_of(digits::signed_decimal_of(w))
 }
 
 // The bytes of a frame, one from each word.
-fn frame_of(kind: u8, s: &[u8]) -> Line
-    ensures { λ r. ⌜ r ≡ framed (lineOf kind) (words (now (s .entry))) ⌝ }
+fn frame_of(kind: u8, s: &[u8]) -> Parsed
+    ensures { λ r. ⌜ r ≡ framed (ofKind kind) (parts (now (s .entry))) ⌝ }
 {
-    let mut out = line_of(kind);
+    let mut out = of_kind(kind);
     let mut i = 0;
     while i < s.len() {
         if is_over(&s[i..]) {
@@ -374,7 +283,7 @@ fn frame_of(kind: u8, s: &[u8]) -> Line
         if 300 <= at {
             return wrong_of(5);
         }
-        let b = hex_of(2, first_word(&s[i..]));
+        let b = digits::hex_of(2, first_word(&s[i..]));
         if 256 <= b {
             return wrong_of(2);
         }
@@ -409,8 +318,8 @@ fn keyword_of(w: &[u8]) -> u8
 }
 
 // A call by its kind and the words after the first.
-fn called_of(kind: u8, s: &[u8]) -> Line
-    ensures { λ r. ⌜ r ≡ called kind (words (now (s .entry))) ⌝ }
+fn called_of(kind: u8, s: &[u8]) -> Parsed
+    ensures { λ r. ⌜ r ≡ called kind (parts (now (s .entry))) ⌝ }
 {
     match kind {
         1 => sample_of(s),
@@ -422,12 +331,12 @@ fn called_of(kind: u8, s: &[u8]) -> Line
 }
 
 // The call that a line asks for, or why it is wrong.
-pub fn parse(line: &[u8]) -> Line
-    ensures { λ r. ⌜ r ≡ parsed (now (line .entry)) ⌝ }
+pub fn parse(line: &[u8]) -> Parsed
+    ensures { λ r. ⌜ r ≡ parsedLine (now (line .entry)) ⌝ }
 {
     let s = body_of(line);
     if is_over(s) {
-        return line_of(0);
+        return of_kind(0);
     }
     let kind = keyword_of(first_word(s));
     called_of(kind, rest_of(s))

@@ -64,8 +64,8 @@ fn print_refusal(refusal: u8) {
 
 // A blank and the two digits of a byte.
 fn print_byte(b: u8) {
-    let digits = b"0123456789ABCDEF";
-    let text = [b' ', digits[(b / 16) as usize], digits[(b % 16) as usize]];
+    let pair = digits::hex_text(b);
+    let text = [b' ', pair.bytes[0], pair.bytes[1]];
     io::write_all(STDOUT_FILENO, &text);
 }
 

@@ -3,15 +3,6 @@ use borrow.Author.Needs.{needs}
 use Rattle.load.proofs.load_play.Statement.{statement}
 use Rattle.load.proofs.load_play.Tie as tie
 
-start-requires : tie.Need-start-requires
-start-requires c κs = search needs
-
-play-requires : tie.Need-play-requires
-play-requires c κs = search needs
-
-same-length : tie.Need-same-length
-same-length c = search needs
-
 returns : tie.Need-returns
 returns c =
     let done = c .before .before in
@@ -19,4 +10,6 @@ returns c =
     (rw (done .play .ensures .0, made .start .ensures), rw (done .play .ensures .1, made .start .ensures))
 
 pub load-play-spec : {M : Type 1} → statement M
-load-play-spec = tie.close (tie.spec start-requires play-requires same-length returns)
+load-play-spec =
+    tie.close
+    (tie.spec (λ c κs. tt) (λ c κs. tt) (λ c. search needs) returns)

@@ -4,15 +4,9 @@ use Rattle.load.specs.Play.{noisyNext}
 use Rattle.load.proofs.noisy_next.Statement.{statement}
 use Rattle.load.proofs.noisy_next.Tie as tie
 
-next-seed-requires : tie.Need-next-seed-requires
-next-seed-requires c κs = search needs
-
-cast-t5 : tie.Need-cast-t5
-cast-t5 c = search needs
-
 returns : tie.Need-returns
 unfolding noisyNext
 returns c = rw (c .next-seed .ensures)
 
 pub noisy-next-spec : {M : Type 1} → statement M
-noisy-next-spec = tie.close (tie.spec next-seed-requires cast-t5 returns)
+noisy-next-spec = tie.close (tie.spec (λ c κs. tt) (λ c. search needs) returns)

@@ -20,15 +20,6 @@ loop-holds : tie.Need-loop-holds Inv-loop μ-loop
 unfolding playMany bufferMany
 loop-holds c = (omega arith, refl, refl, refl)
 
-play-one-requires : tie.Need-play-one-requires Inv-loop μ-loop
-play-one-requires c κs = search needs
-
-add-i : tie.Need-add-i Inv-loop μ-loop
-add-i c = omega arith
-
-loop-less : tie.Need-loop-less Inv-loop μ-loop
-loop-less c = omega arith
-
 loop-again : tie.Need-loop-again Inv-loop μ-loop
 unfolding playMany bufferMany
 loop-again c =
@@ -47,13 +38,5 @@ returns c =
 pub play-spec : {M : Type 1} → statement M
 play-spec =
     tie.close
-    (tie.spec
-    Inv-loop
-    μ-loop
-    loop-holds
-    play-one-requires
-    add-i
-    loop-less
-    loop-again
-    same-length
-    returns)
+    (tie.spec Inv-loop μ-loop loop-holds (λ c κs. tt) (λ c. omega arith)
+    (λ c. omega arith) loop-again same-length returns)

@@ -20,26 +20,8 @@ Inv-loop input m₀ number₀ at₀ m number at =
 abbrev μ-loop : tie.MeasureT-loop
 μ-loop input m₀ number₀ at₀ m number at = length input - at
 
-fresh-requires : tie.Need-fresh-requires Inv-loop μ-loop
-fresh-requires c κs = tt
-
 loop-holds : tie.Need-loop-holds Inv-loop μ-loop
 loop-holds c = (omega arith, omega arith, rw (c .fresh .ensures))
-
-add-number : tie.Need-add-number Inv-loop μ-loop
-add-number c = search needs
-
-sub-line-end : tie.Need-sub-line-end Inv-loop μ-loop
-sub-line-end c = search needs
-
-part-line-end-start : tie.Need-part-line-end-start Inv-loop μ-loop
-part-line-end-start c = search needs
-
-part-line-end-end : tie.Need-part-line-end-end Inv-loop μ-loop
-part-line-end-end c = search needs
-
-line-end-requires : tie.Need-line-end-requires Inv-loop μ-loop
-line-end-requires c κs = tt
 
 -- the line found ends inside the script
 fits : (c : tie.After-line-end Inv-loop μ-loop) → c .before .before .before .loop .at + c .line-end .result ≤ length (now (c .before .before .before .before .before .before .args .input))
@@ -58,9 +40,6 @@ part-play-line-start c = omega (arith, fits c)
 
 part-play-line-end : tie.Need-part-play-line-end Inv-loop μ-loop
 part-play-line-end c = omega (arith, fits c)
-
-play-line-requires : tie.Need-play-line-requires Inv-loop μ-loop
-play-line-requires c κs = tt
 
 returns : tie.Need-returns Inv-loop μ-loop
 returns c =
@@ -89,23 +68,6 @@ returns-2 c =
 pub play-spec : {M : Type 1} → statement M
 play-spec =
     tie.close
-    (tie.spec
-    Inv-loop
-    μ-loop
-    fresh-requires
-    loop-holds
-    add-number
-    sub-line-end
-    part-line-end-start
-    part-line-end-end
-    line-end-requires
-    add-end
-    sub-play-line
-    part-play-line-start
-    part-play-line-end
-    play-line-requires
-    returns
-    add-at
-    loop-less
-    loop-again
-    returns-2)
+    (tie.spec Inv-loop μ-loop (λ c κs. tt) loop-holds (λ c. search needs) (λ c. search needs)
+    (λ c. search needs) (λ c. search needs) (λ c κs. tt) add-end sub-play-line part-play-line-start
+    part-play-line-end (λ c κs. tt) returns add-at loop-less loop-again returns-2)

@@ -19,21 +19,9 @@ use Rattle.player.proofs.play_calls.Tie as tie
 full : (c : tie.Start) → length (c .args .x .frame) ≡ 300
 full c = field-length (c .args .x .frame) (search needs)
 
-within-frame-requires : tie.Need-within-frame-requires
-within-frame-requires c κs = search needs
-
-play-samples-requires : tie.Need-play-samples-requires
-play-samples-requires c κs = search needs
-
-play-temperature-requires : tie.Need-play-temperature-requires
-play-temperature-requires c κs = search needs
-
-play-temperature-requires-2 : tie.Need-play-temperature-requires-2
-play-temperature-requires-2 c κs = search needs
-
 -- a frame's length is within its array
-within : (c : tie.After-within-frame) → c .within-frame .result ≤ length (c .before .before .args .x .frame)
-within c = omega (arith, c .within-frame .ensures, min-le-right (c .before .before .args .x .len) 300, full (c .before .before))
+within : (c : tie.After-at-most) → c .at-most .result ≤ length (c .before .before .args .x .frame)
+within c = omega (arith, c .at-most .ensures, min-le-right (c .before .before .args .x .len) 300, full (c .before .before))
 
 array-share-prefix-frame : tie.Need-array-share-prefix-frame
 array-share-prefix-frame c = within (c .before)
@@ -41,17 +29,11 @@ array-share-prefix-frame c = within (c .before)
 slice-aggregate-play-frame : tie.Need-slice-aggregate-play-frame
 slice-aggregate-play-frame c = rw length-take (omega (arith, within (c .before .before)))
 
-play-frame-requires : tie.Need-play-frame-requires
-play-frame-requires c κs = search needs
-
 array-share-prefix-frame-2 : tie.Need-array-share-prefix-frame-2
 array-share-prefix-frame-2 c = within (c .before)
 
 slice-aggregate-play-frame-2 : tie.Need-slice-aggregate-play-frame-2
 slice-aggregate-play-frame-2 c = rw length-take (omega (arith, within (c .before .before)))
-
-play-frame-requires-2 : tie.Need-play-frame-requires-2
-play-frame-requires-2 c κs = search needs
 
 returns : tie.Need-returns
 unfolding lineCalls run step
@@ -68,8 +50,8 @@ unfolding lineCalls run step
 returns-3 c = rw (c .before .match .keys3) (c .play-temperature2 .ensures)
 
 -- the frame that is played is the line's
-framed : (c : tie.After-within-frame) → take (c .within-frame .result) (c .before .before .args .x .frame) ≡ take (c .before .before .args .x .len) (c .before .before .args .x .frame)
-framed c = rw (c .within-frame .ensures) (take-limited (c .before .before .args .x .len) 300 (c .before .before .args .x .frame) (full (c .before .before)))
+framed : (c : tie.After-at-most) → take (c .at-most .result) (c .before .before .args .x .frame) ≡ take (c .before .before .args .x .len) (c .before .before .args .x .frame)
+framed c = rw (c .at-most .ensures) (take-limited (c .before .before .args .x .len) 300 (c .before .before .args .x .frame) (full (c .before .before)))
 
 returns-4 : tie.Need-returns-4
 unfolding frameCall lineCalls run step
@@ -92,20 +74,7 @@ returns-6 c =
 pub play-calls-spec : {M : Type 1} → statement M
 play-calls-spec =
     tie.close
-    (tie.spec
-    within-frame-requires
-    play-samples-requires
-    play-temperature-requires
-    play-temperature-requires-2
-    array-share-prefix-frame
-    slice-aggregate-play-frame
-    play-frame-requires
-    array-share-prefix-frame-2
-    slice-aggregate-play-frame-2
-    play-frame-requires-2
-    returns
-    returns-2
-    returns-3
-    returns-4
-    returns-5
-    returns-6)
+    (tie.spec (λ c κs. tt) (λ c κs. tt) (λ c κs. tt)
+    (λ c κs. tt) array-share-prefix-frame slice-aggregate-play-frame
+    (λ c κs. tt) array-share-prefix-frame-2 slice-aggregate-play-frame-2
+    (λ c κs. tt) returns returns-2 returns-3 returns-4 returns-5 returns-6)

@@ -1,18 +1,22 @@
 -- `player::print_text` meets its contract. Assumes nothing.
-use native.Mathlib.Omega.{arith}
-use lib.ListN.{length-take}
 use borrow.Author.Needs.{needs}
+use native.Mathlib.Omega.{arith}
+use native.Mathlib.Nat.{min-le-right}
+use lib.ListN.{length, length-take}
+use Prim.Native.Nat.{_≤_}
+use Rattle.lists.proofs.DataLaws.{field-length}
 use Rattle.player.proofs.print_text.Statement.{statement}
 use Rattle.player.proofs.print_text.Tie as tie
 
-slice-aggregate-write-all : tie.Need-slice-aggregate-write-all
-slice-aggregate-write-all c = rw length-take (omega arith)
-
-write-all-requires : tie.Need-write-all-requires
-write-all-requires c κs = search needs
-
-returns : tie.Need-returns
-returns c = search needs
+-- what counts is within the array
+within : (c : tie.After-at-most) → c .at-most .result ≤ length (c .before .args .text .bytes)
+within c =
+    let text = c .before .args .text in
+    omega (arith, c .at-most .ensures, min-le-right (text .len) 772, field-length (text .bytes) {n = 772} (search needs))
 
 pub print-text-spec : {M : Type 1} → statement M
-print-text-spec = tie.close (tie.spec slice-aggregate-write-all write-all-requires returns)
+print-text-spec =
+    tie.close
+    (tie.spec (λ c κs. tt) (λ c. within (c .before))
+    (λ c. rw length-take (omega (arith, within (c .before .before)))) (λ c κs. tt)
+    (λ c. search needs))

@@ -4,15 +4,6 @@ use borrow.Author.Tests.{lt-ltb, le-ltb}
 use Rattle.samples.proofs.number_at.Statement.{statement}
 use Rattle.samples.proofs.number_at.Tie as tie
 
-mul-v : tie.Need-mul-v
-mul-v c = search needs
-
-array-read-v : tie.Need-array-read-v
-array-read-v c = search needs
-
-cast-result : tie.Need-cast-result
-cast-result c = search needs
-
 returns : tie.Need-returns
 returns c = rw (lt-ltb _ 16 (c .if1 .taken))
 
@@ -20,4 +11,6 @@ returns-2 : tie.Need-returns-2
 returns-2 c = rw (le-ltb _ 16 (c .if1 .left))
 
 pub number-at-spec : {M : Type 1} → statement M
-number-at-spec = tie.close (tie.spec mul-v array-read-v cast-result returns returns-2)
+number-at-spec =
+    tie.close
+    (tie.spec (λ c. search needs) (λ c. search needs) (λ c. search needs) returns returns-2)

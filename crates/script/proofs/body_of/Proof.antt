@@ -7,12 +7,6 @@ use Rattle.script.proofs.Leading.{leading-le}
 use Rattle.script.proofs.body_of.Statement.{statement}
 use Rattle.script.proofs.body_of.Tie as tie
 
-without-cr-requires : tie.Need-without-cr-requires
-without-cr-requires c κs = tt
-
-plains-requires : tie.Need-plains-requires
-plains-requires c κs = tt
-
 slice-aggregate-result : tie.Need-slice-aggregate-result
 slice-aggregate-result c = rw length-take (omega (arith, c .before .plains .ensures, leading-le plain (now (c .before .before .without-cr .result))))
 
@@ -21,5 +15,4 @@ unfolding body
 returns c = rw (c .before .plains .ensures, c .before .before .without-cr .ensures)
 
 pub body-of-spec : {M : Type 1} → statement M
-body-of-spec =
-    tie.close (tie.spec without-cr-requires plains-requires slice-aggregate-result returns)
+body-of-spec = tie.close (tie.spec (λ c κs. tt) (λ c κs. tt) slice-aggregate-result returns)

@@ -8,31 +8,16 @@ use Rattle.script.proofs.Firsts.{used-law, used-le, first-law}
 use Rattle.script.proofs.first_word.Statement.{statement}
 use Rattle.script.proofs.first_word.Tie as tie
 
-blanks-requires : tie.Need-blanks-requires
-blanks-requires c κs = tt
-
 sub-solids : tie.Need-sub-solids
 sub-solids c = rw (c .blanks .ensures) (leading-le blank _)
 
 part-solids-start : tie.Need-part-solids-start
 part-solids-start c = rw (c .blanks .ensures) (leading-le blank _)
 
-part-solids-end : tie.Need-part-solids-end
-part-solids-end c = search needs
-
-solids-requires : tie.Need-solids-requires
-solids-requires c κs = tt
-
 add-e : tie.Need-add-e
 add-e c =
     let s = now (c .before .before .before .before .args .s) in
     omega (arith, used-law s _ _ (c .before .before .blanks .ensures) (c .solids .ensures), used-le s)
-
-sub-result : tie.Need-sub-result
-sub-result c = search needs
-
-part-result-start : tie.Need-part-result-start
-part-result-start c = search needs
 
 part-result-end : tie.Need-part-result-end
 part-result-end c =
@@ -45,14 +30,5 @@ returns c = first-law _ _ _ (c .before .before .before .blanks .ensures) (c .bef
 pub first-word-spec : {M : Type 1} → statement M
 first-word-spec =
     tie.close
-    (tie.spec
-    blanks-requires
-    sub-solids
-    part-solids-start
-    part-solids-end
-    solids-requires
-    add-e
-    sub-result
-    part-result-start
-    part-result-end
-    returns)
+    (tie.spec (λ c κs. tt) sub-solids part-solids-start (λ c. search needs) (λ c κs. tt) add-e
+    (λ c. search needs) (λ c. search needs) part-result-end returns)

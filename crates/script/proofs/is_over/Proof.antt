@@ -2,11 +2,8 @@
 use Rattle.script.proofs.is_over.Statement.{statement}
 use Rattle.script.proofs.is_over.Tie as tie
 
-blanks-requires : tie.Need-blanks-requires
-blanks-requires c κs = tt
-
 returns : tie.Need-returns
 returns c = rw (c .blanks .ensures)
 
 pub is-over-spec : {M : Type 1} → statement M
-is-over-spec = tie.close (tie.spec blanks-requires returns)
+is-over-spec = tie.close (tie.spec (λ c κs. tt) returns)

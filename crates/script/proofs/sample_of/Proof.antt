@@ -4,29 +4,8 @@ use Rattle.script.proofs.Calls.{sample-none, sample-one, sample-two, sa
 use Rattle.script.proofs.sample_of.Statement.{statement}
 use Rattle.script.proofs.sample_of.Tie as tie
 
-is-over-requires : tie.Need-is-over-requires
-is-over-requires c κs = tt
-
-wrong-of-requires : tie.Need-wrong-of-requires
-wrong-of-requires c κs = tt
-
 returns : tie.Need-returns
 returns c = rw (c .wrong-of .ensures) (sample-none _ (sym (c .before .before .is-over .ensures) ∙ c .before .if1 .taken))
-
-first-word-requires : tie.Need-first-word-requires
-first-word-requires c κs = tt
-
-hex-of-requires : tie.Need-hex-of-requires
-hex-of-requires c κs = tt
-
-rest-of-requires : tie.Need-rest-of-requires
-rest-of-requires c κs = tt
-
-is-over-requires-2 : tie.Need-is-over-requires-2
-is-over-requires-2 c κs = tt
-
-sampled-of-requires : tie.Need-sampled-of-requires
-sampled-of-requires c κs = tt
 
 returns-2 : tie.Need-returns-2
 returns-2 c =
@@ -35,21 +14,6 @@ returns-2 c =
     let first = hx .before .before in
     let one = rw (at .before .rest-of .ensures) at (sym (at .is-over2 .ensures) ∙ c .before .if2 .taken) in
     rw (c .sampled-of .ensures, hx .hex-of .ensures, hx .before .first-word .ensures) (sample-one _ (sym (first .before .is-over .ensures) ∙ first .if1 .left) one)
-
-first-word-requires-2 : tie.Need-first-word-requires-2
-first-word-requires-2 c κs = tt
-
-decimal-of-requires : tie.Need-decimal-of-requires
-decimal-of-requires c κs = tt
-
-rest-of-requires-2 : tie.Need-rest-of-requires-2
-rest-of-requires-2 c κs = tt
-
-is-over-requires-3 : tie.Need-is-over-requires-3
-is-over-requires-3 c κs = tt
-
-sampled-of-requires-2 : tie.Need-sampled-of-requires-2
-sampled-of-requires-2 c κs = tt
 
 returns-3 : tie.Need-returns-3
 returns-3 c =
@@ -61,9 +25,6 @@ returns-3 c =
     let more = rw (over2 .before .rest-of .ensures) at (sym (over2 .is-over2 .ensures) ∙ dec .before .before .if2 .left) in
     let two = rw (at .before .rest-of2 .ensures, over2 .before .rest-of .ensures) at (sym (at .is-over3 .ensures) ∙ c .before .if3 .taken) in
     rw (c .sampled-of2 .ensures, hx .hex-of .ensures, hx .before .first-word .ensures, dec .decimal-of .ensures, dec .before .first-word2 .ensures, over2 .before .rest-of .ensures) (sample-two _ (sym (first .before .is-over .ensures) ∙ first .if1 .left) more two)
-
-wrong-of-requires-2 : tie.Need-wrong-of-requires-2
-wrong-of-requires-2 c κs = tt
 
 returns-4 : tie.Need-returns-4
 returns-4 c =
@@ -79,21 +40,6 @@ returns-4 c =
 pub sample-of-spec : {M : Type 1} → statement M
 sample-of-spec =
     tie.close
-    (tie.spec
-    is-over-requires
-    wrong-of-requires
-    returns
-    first-word-requires
-    hex-of-requires
-    rest-of-requires
-    is-over-requires-2
-    sampled-of-requires
-    returns-2
-    first-word-requires-2
-    decimal-of-requires
-    rest-of-requires-2
-    is-over-requires-3
-    sampled-of-requires-2
-    returns-3
-    wrong-of-requires-2
-    returns-4)
+    (tie.spec (λ c κs. tt) (λ c κs. tt) returns (λ c κs. tt) (λ c κs. tt) (λ c κs. tt) (λ c κs. tt)
+    (λ c κs. tt) returns-2 (λ c κs. tt) (λ c κs. tt) (λ c κs. tt) (λ c κs. tt) (λ c κs. tt)
+    returns-3 (λ c κs. tt) returns-4)

@@ -8,22 +8,13 @@ use Rattle.script.specs.Lines.{sampled}
 use Rattle.script.proofs.sampled_of.Statement.{statement}
 use Rattle.script.proofs.sampled_of.Tie as tie
 
-wrong-of-requires : tie.Need-wrong-of-requires
-wrong-of-requires c κs = tt
-
 returns : tie.Need-returns
 unfolding sampled
 returns c = rw (c .wrong-of .ensures, le-ltb _ 65536 (c .before .if1 .taken))
 
-wrong-of-requires-2 : tie.Need-wrong-of-requires-2
-wrong-of-requires-2 c κs = tt
-
 returns-2 : tie.Need-returns-2
 unfolding sampled
 returns-2 c = rw (c .wrong-of2 .ensures, lt-ltb _ 65536 (c .before .before .if1 .left), c .before .if2 .taken)
-
-cast-bits : tie.Need-cast-bits
-cast-bits c = search needs
 
 cast-times : tie.Need-cast-times
 cast-times c = omega (arith, ltb-false 65535 (c .before .before .args .n) (or-right (eqb (c .before .before .args .n) 0) _ (c .if2 .left)))
@@ -35,11 +26,4 @@ returns-3 c = rw (lt-ltb _ 65536 (c .before .if1 .left), c .if2 .left)
 pub sampled-of-spec : {M : Type 1} → statement M
 sampled-of-spec =
     tie.close
-    (tie.spec
-    wrong-of-requires
-    returns
-    wrong-of-requires-2
-    returns-2
-    cast-bits
-    cast-times
-    returns-3)
+    (tie.spec (λ c κs. tt) returns (λ c κs. tt) returns-2 (λ c. search needs) cast-times returns-3)

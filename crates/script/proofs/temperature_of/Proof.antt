@@ -5,26 +5,8 @@ use Rattle.script.proofs.Calls.{temperature-none, temperature-many, tem
 use Rattle.script.proofs.temperature_of.Statement.{statement}
 use Rattle.script.proofs.temperature_of.Tie as tie
 
-is-over-requires : tie.Need-is-over-requires
-is-over-requires c κs = tt
-
-wrong-of-requires : tie.Need-wrong-of-requires
-wrong-of-requires c κs = tt
-
 returns : tie.Need-returns
 returns c = rw (c .wrong-of .ensures) (temperature-none _ (sym (c .before .before .is-over .ensures) ∙ c .before .if1 .taken))
-
-first-word-requires : tie.Need-first-word-requires
-first-word-requires c κs = tt
-
-rest-of-requires : tie.Need-rest-of-requires
-rest-of-requires c κs = tt
-
-is-over-requires-2 : tie.Need-is-over-requires-2
-is-over-requires-2 c κs = tt
-
-wrong-of-requires-2 : tie.Need-wrong-of-requires-2
-wrong-of-requires-2 c κs = tt
 
 returns-2 : tie.Need-returns-2
 returns-2 c =
@@ -33,12 +15,6 @@ returns-2 c =
     let many = rw (at .before .rest-of .ensures) at (sym (at .is-over2 .ensures) ∙ not-true _ (c .before .if2 .taken)) in
     rw (c .wrong-of2 .ensures) (temperature-many _ (sym (first .before .is-over .ensures) ∙ first .if1 .left) many)
 
-is-fault-requires : tie.Need-is-fault-requires
-is-fault-requires c κs = tt
-
-line-of-requires : tie.Need-line-of-requires
-line-of-requires c κs = tt
-
 returns-3 : tie.Need-returns-3
 returns-3 c =
     let fault = c .before .before in
@@ -46,13 +22,7 @@ returns-3 c =
     let first = at .before .before .before in
     let one = rw (at .before .rest-of .ensures) at (sym (at .is-over2 .ensures) ∙ not-false _ (fault .before .if2 .left)) in
     let is = rw (at .before .before .first-word .ensures) at (sym (fault .is-fault .ensures) ∙ c .before .if3 .taken) in
-    rw (c .line-of .ensures) (temperature-fault _ (sym (first .before .is-over .ensures) ∙ first .if1 .left) one is)
-
-signed-word-requires : tie.Need-signed-word-requires
-signed-word-requires c κs = tt
-
-tenths-of-requires : tie.Need-tenths-of-requires
-tenths-of-requires c κs = tt
+    rw (c .of-kind .ensures) (temperature-fault _ (sym (first .before .is-over .ensures) ∙ first .if1 .left) one is)
 
 returns-4 : tie.Need-returns-4
 returns-4 c =
@@ -61,23 +31,10 @@ returns-4 c =
     let first = at .before .before .before in
     let one = rw (at .before .rest-of .ensures) at (sym (at .is-over2 .ensures) ∙ not-false _ (fault .before .if2 .left)) in
     let is = rw (at .before .before .first-word .ensures) at (sym (fault .is-fault .ensures) ∙ c .before .before .if3 .left) in
-    rw (c .tenths-of .ensures, c .before .signed-word .ensures, at .before .before .first-word .ensures) (temperature-good _ (sym (first .before .is-over .ensures) ∙ first .if1 .left) one is)
+    rw (c .tenths-of .ensures, c .before .signed-decimal-of .ensures, at .before .before .first-word .ensures) (temperature-good _ (sym (first .before .is-over .ensures) ∙ first .if1 .left) one is)
 
 pub temperature-of-spec : {M : Type 1} → statement M
 temperature-of-spec =
     tie.close
-    (tie.spec
-    is-over-requires
-    wrong-of-requires
-    returns
-    first-word-requires
-    rest-of-requires
-    is-over-requires-2
-    wrong-of-requires-2
-    returns-2
-    is-fault-requires
-    line-of-requires
-    returns-3
-    signed-word-requires
-    tenths-of-requires
-    returns-4)
+    (tie.spec (λ c κs. tt) (λ c κs. tt) returns (λ c κs. tt) (λ c κs. tt) (λ c κs. tt) (λ c κs. tt)
+    returns-2 (λ c κs. tt) (λ c κs. tt) returns-3 (λ c κs. tt) (λ c κs. tt) returns-4)

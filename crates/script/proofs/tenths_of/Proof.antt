@@ -8,21 +8,9 @@ use Rattle.script.specs.Lines.{tenthsOf}
 use Rattle.script.proofs.tenths_of.Statement.{statement}
 use Rattle.script.proofs.tenths_of.Tie as tie
 
-wrong-of-requires : tie.Need-wrong-of-requires
-wrong-of-requires c κs = tt
-
 returns : tie.Need-returns
 unfolding tenthsOf
 returns c = rw (c .wrong-of .ensures, le-ltb _ _ (c .before .if1 .taken))
-
-cast-signed-of : tie.Need-cast-signed-of
-cast-signed-of c = search needs
-
-signed-of-requires : tie.Need-signed-of-requires
-signed-of-requires c κs = tt
-
-good-of-requires : tie.Need-good-of-requires
-good-of-requires c κs = tt
 
 returns-2 : tie.Need-returns-2
 unfolding tenthsOf
@@ -33,10 +21,4 @@ returns-2 c =
 pub tenths-of-spec : {M : Type 1} → statement M
 tenths-of-spec =
     tie.close
-    (tie.spec
-    wrong-of-requires
-    returns
-    cast-signed-of
-    signed-of-requires
-    good-of-requires
-    returns-2)
+    (tie.spec (λ c κs. tt) returns (λ c. search needs) (λ c κs. tt) (λ c κs. tt) returns-2)

@@ -8,20 +8,11 @@ use Rattle.script.proofs.Firsts.{used-law, used-le}
 use Rattle.script.proofs.used_of.Statement.{statement}
 use Rattle.script.proofs.used_of.Tie as tie
 
-blanks-requires : tie.Need-blanks-requires
-blanks-requires c κs = tt
-
 sub-solids : tie.Need-sub-solids
 sub-solids c = rw (c .blanks .ensures) (leading-le blank _)
 
 part-solids-start : tie.Need-part-solids-start
 part-solids-start c = rw (c .blanks .ensures) (leading-le blank _)
-
-part-solids-end : tie.Need-part-solids-end
-part-solids-end c = search needs
-
-solids-requires : tie.Need-solids-requires
-solids-requires c κs = tt
 
 add-result : tie.Need-add-result
 add-result c =
@@ -34,11 +25,5 @@ returns c = used-law _ _ _ (c .before .before .blanks .ensures) (c .solids .ensu
 pub used-of-spec : {M : Type 1} → statement M
 used-of-spec =
     tie.close
-    (tie.spec
-    blanks-requires
-    sub-solids
-    part-solids-start
-    part-solids-end
-    solids-requires
-    add-result
+    (tie.spec (λ c κs. tt) sub-solids part-solids-start (λ c. search needs) (λ c κs. tt) add-result
     returns)

@@ -6,17 +6,8 @@ use Rattle.script.proofs.Bodies.{uncr-empty, uncr-cut, uncr-other}
 use Rattle.script.proofs.without_cr.Statement.{statement}
 use Rattle.script.proofs.without_cr.Tie as tie
 
-slice-aggregate-result : tie.Need-slice-aggregate-result
-slice-aggregate-result c = search needs
-
 returns : tie.Need-returns
 returns c = uncr-empty _ (c .before .if1 .taken)
-
-sub-last : tie.Need-sub-last
-sub-last c = search needs
-
-shared-slice-read-if2 : tie.Need-shared-slice-read-if2
-shared-slice-read-if2 c = search needs
 
 slice-aggregate-result-2 : tie.Need-slice-aggregate-result-2
 slice-aggregate-result-2 c = rw length-take (omega arith)
@@ -33,12 +24,5 @@ returns-3 c = uncr-other _ (c .before .if2 .left)
 pub without-cr-spec : {M : Type 1} → statement M
 without-cr-spec =
     tie.close
-    (tie.spec
-    slice-aggregate-result
-    returns
-    sub-last
-    shared-slice-read-if2
-    slice-aggregate-result-2
-    returns-2
-    slice-aggregate-result-3
-    returns-3)
+    (tie.spec (λ c. search needs) returns (λ c. search needs) (λ c. search needs)
+    slice-aggregate-result-2 returns-2 slice-aggregate-result-3 returns-3)

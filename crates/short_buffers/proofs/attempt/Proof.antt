@@ -9,14 +9,8 @@ use Rattle.short_buffers.proofs.Laws.{first-bytes}
 use Rattle.short_buffers.proofs.attempt.Statement.{statement}
 use Rattle.short_buffers.proofs.attempt.Tie as tie
 
-array-borrow-prefix-space : tie.Need-array-borrow-prefix-space
-array-borrow-prefix-space c = search needs
-
 slice-aggregate-told : tie.Need-slice-aggregate-told
 slice-aggregate-told c = sym (length-take-le _ _ (c .before .before .pre))
-
-told-requires : tie.Need-told-requires
-told-requires c κs = search needs
 
 returns : tie.Need-returns
 returns c =
@@ -25,4 +19,5 @@ returns c =
 
 pub attempt-spec : {M : Type 1} → statement M
 attempt-spec =
-    tie.close (tie.spec array-borrow-prefix-space slice-aggregate-told told-requires returns)
+    tie.close
+    (tie.spec (λ c. search needs) slice-aggregate-told (λ c κs. tt) returns)

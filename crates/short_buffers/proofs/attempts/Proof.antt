@@ -1,26 +1,8 @@
 -- `short_buffers::attempts` meets its contract. Assumes nothing.
-use borrow.Author.Needs.{needs}
+use native.Mathlib.Omega.{arith}
 use Rattle.model.specs.Calls.{run, step}
 use Rattle.short_buffers.proofs.attempts.Statement.{statement}
 use Rattle.short_buffers.proofs.attempts.Tie as tie
-
-attempt-requires : tie.Need-attempt-requires
-attempt-requires c κs = search needs
-
-attempt-requires-2 : tie.Need-attempt-requires-2
-attempt-requires-2 c κs = search needs
-
-attempt-requires-3 : tie.Need-attempt-requires-3
-attempt-requires-3 c κs = search needs
-
-attempt-requires-4 : tie.Need-attempt-requires-4
-attempt-requires-4 c κs = search needs
-
-attempt-requires-5 : tie.Need-attempt-requires-5
-attempt-requires-5 c κs = search needs
-
-attempt-requires-6 : tie.Need-attempt-requires-6
-attempt-requires-6 c κs = search needs
 
 returns : tie.Need-returns
 unfolding run step
@@ -34,11 +16,5 @@ returns c =
 pub attempts-spec : {M : Type 1} → statement M
 attempts-spec =
     tie.close
-    (tie.spec
-    attempt-requires
-    attempt-requires-2
-    attempt-requires-3
-    attempt-requires-4
-    attempt-requires-5
-    attempt-requires-6
-    returns)
+    (tie.spec (λ c κs. omega arith) (λ c κs. omega arith) (λ c κs. omega arith)
+    (λ c κs. omega arith) (λ c κs. omega arith) (λ c κs. omega arith) returns)

@@ -12,37 +12,8 @@ Inv-loop bytes i₀ i-end i = i ≤ length bytes
 abbrev μ-loop : tie.MeasureT-loop
 μ-loop bytes i₀ i-end i = length bytes - i
 
-loop-holds : tie.Need-loop-holds Inv-loop μ-loop
-loop-holds c = omega arith
-
-shared-slice-read-print-byte : tie.Need-shared-slice-read-print-byte Inv-loop μ-loop
-shared-slice-read-print-byte c = search needs
-
-print-byte-requires : tie.Need-print-byte-requires Inv-loop μ-loop
-print-byte-requires c κs = search needs
-
-add-i : tie.Need-add-i Inv-loop μ-loop
-add-i c = omega arith
-
-loop-less : tie.Need-loop-less Inv-loop μ-loop
-loop-less c = omega arith
-
-loop-again : tie.Need-loop-again Inv-loop μ-loop
-loop-again c = omega arith
-
-returns : tie.Need-returns Inv-loop μ-loop
-returns c = tt
-
 pub print-bytes-spec : {M : Type 1} → statement M
 print-bytes-spec =
     tie.close
-    (tie.spec
-    Inv-loop
-    μ-loop
-    loop-holds
-    shared-slice-read-print-byte
-    print-byte-requires
-    add-i
-    loop-less
-    loop-again
-    returns)
+    (tie.spec Inv-loop μ-loop (λ c. omega arith) (λ c. search needs) (λ c κs. tt)
+    (λ c. omega arith) (λ c. omega arith) (λ c. omega arith) (λ c. tt))

@@ -7,35 +7,17 @@ use Rattle.short_buffers.proofs.Laws.{answer-fits}
 use Rattle.short_buffers.proofs.told.Statement.{statement}
 use Rattle.short_buffers.proofs.told.Tie as tie
 
-make-requires : tie.Need-make-requires
-make-requires c κs = search needs
-
 sub-kept : tie.Need-sub-kept
 sub-kept c = answer-fits (c .before .before .make .ensures)
 
 part-kept-start : tie.Need-part-kept-start
 part-kept-start c = omega (arith, answer-fits (c .before .before .before .make .ensures))
 
-part-kept-end : tie.Need-part-kept-end
-part-kept-end c = search needs
-
-kept-requires : tie.Need-kept-requires
-kept-requires c κs = search needs
-
-print-kind-requires : tie.Need-print-kind-requires
-print-kind-requires c κs = search needs
-
 slice-reshare-prefix-print-line : tie.Need-slice-reshare-prefix-print-line
 slice-reshare-prefix-print-line c = answer-fits (c .before .before .before .before .before .before .make .ensures)
 
 slice-aggregate-print-line : tie.Need-slice-aggregate-print-line
 slice-aggregate-print-line c = sym (length-take-le _ _ (answer-fits (c .before .before .before .before .before .before .before .make .ensures)))
-
-print-line-requires : tie.Need-print-line-requires
-print-line-requires c κs = search needs
-
-same-length : tie.Need-same-length
-same-length c = search needs
 
 returns : tie.Need-returns
 returns c =
@@ -45,15 +27,6 @@ returns c =
 pub told-spec : {M : Type 1} → statement M
 told-spec =
     tie.close
-    (tie.spec
-    make-requires
-    sub-kept
-    part-kept-start
-    part-kept-end
-    kept-requires
-    print-kind-requires
-    slice-reshare-prefix-print-line
-    slice-aggregate-print-line
-    print-line-requires
-    same-length
-    returns)
+    (tie.spec (λ c κs. tt) sub-kept part-kept-start (λ c. search needs)
+    (λ c κs. tt) (λ c κs. tt) slice-reshare-prefix-print-line
+    slice-aggregate-print-line (λ c κs. tt) (λ c. search needs) returns)

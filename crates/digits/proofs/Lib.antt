@@ -1,0 +1,5 @@
+pub mod Digits
+pub mod Signs
+pub mod Characters
+pub mod Back
+pub mod Examples
