@@ -8,14 +8,15 @@ use mathlib.Core.List.{List}
 use lib.Dec.{eqb}
 use lib.ListN.{length, getD}
 use Rattle.lists.specs.Tests.{any}
+use Rattle.lists.specs.Numbers.{bitAt}
 use Rattle.lists.proofs.Done.{length-mapi}
-use Rattle.lists.proofs.Somes.{some-any, some-false, mapi-same}
+use Rattle.lists.proofs.Somes.{some-any, some-false, some-of, none-below, mapi-same}
 use Rattle.model.specs.declared.Inputs.{Inputs}
 use Rattle.model.specs.declared.Settings.{Settings}
 use Rattle.model.specs.declared.Line.{Line}
 use Rattle.model.specs.State.{freshLine}
 use Rattle.model.specs.Samples.{isEdge, edges, selects, selectedEdge, counted, linesSampled, countersSampled, inputsSampled}
-use Rattle.inputs.specs.Passes.{sampledOf}
+use Rattle.inputs.specs.Passes.{anyMasked, sampledOf}
 
 -- without an edge no counter moves
 pub no-edge : (was now : List Line) (modes cs : List ℕ) → length was ≡ length cs → any (λ b. b) (edges was now) ≡ false → countersSampled modes was now cs ≡ cs
@@ -41,17 +42,24 @@ selects-formula mode r = go (eqb mode 1) (eqb mode 2) refl refl
 pub selected-formula : (mode : ℕ) (a b : Bool) → (not (Bool·beq a b) && (eqb mode 3 || (eqb mode 1 && b) || (eqb mode 2 && not b))) ≡ (not (Bool·beq a b) && selects mode b)
 selected-formula mode a b = ap (not (Bool·beq a b) &&_) (selects-formula mode b)
 
--- the inputs' part of a sample, by whether a line had an edge
-module _ (bits : ℕ) (s : Settings) (x : Inputs) (now : List Line) (e : now ≡ linesSampled (s .sampling) bits (x .lines)) (edged : List Bool) (q : edged ≡ edges (x .lines) now) where
-  pub with-edge : (cs : List ℕ) → cs ≡ countersSampled (s .modes) (x .lines) now (x .counters)
-      → record { inputs = record { lines = now; counters = cs }; edges = edged } ≡ sampledOf bits s x
-  unfolding sampledOf inputsSampled
-  with-edge cs p = rw (p, q, e)
+-- without an edge the mask picks none
+pub no-mask : (mask : ℕ) (edged : List Bool) → any (λ b. b) edged ≡ false → anyMasked mask edged ≡ false
+unfolding anyMasked
+no-mask mask edged h =
+    some-any (λ i b. b && bitAt mask i) edged false
+    ∙ none-below _ (length edged) (λ i l. rw (some-false (λ k. getD edged k false) (length edged) i (sym (some-of edged) ∙ h) l))
 
-  pub without-edge : (t : Bool) → t ≡ any (λ b. b) edged → t ≡ false → length now ≡ length (x .counters)
-      → record { inputs = record { lines = now; counters = x .counters }; edges = edged } ≡ sampledOf bits s x
+-- the inputs' part of a sample, by whether a line had an edge
+module _ (bits : ℕ) (s : Settings) (x : Inputs) (now : List Line) (e : now ≡ linesSampled (s .sampling) bits (x .lines)) (es : List Bool) (q : es ≡ edges (x .lines) now) (t : Bool) (p : t ≡ any (λ b. b) es) where
+  pub with-edge : (cs : List ℕ) → cs ≡ countersSampled (s .modes) (x .lines) now (x .counters)
+      → record { inputs = record { lines = now; counters = cs }; edges = es; edged = t } ≡ sampledOf bits s x
+  unfolding sampledOf inputsSampled
+  with-edge cs c = rw (c, p, q, e)
+
+  pub without-edge : t ≡ false → length now ≡ length (x .counters)
+      → record { inputs = record { lines = now; counters = x .counters }; edges = es; edged = t } ≡ sampledOf bits s x
   unfolding linesSampled
-  without-edge t p f l =
+  without-edge f l =
       let long : length (x .lines) ≡ length (x .counters) = sym (length-mapi _ (x .lines)) ∙ ap length (sym e) ∙ l in
       let none : any (λ b. b) (edges (x .lines) now) ≡ false = ap (any (λ b. b)) (sym q) ∙ sym p ∙ f in
       with-edge (x .counters) (sym (no-edge (x .lines) now (s .modes) (x .counters) long none))

@@ -20,4 +20,6 @@ unfoldable pub stableBits : List Line → ℕ
 stableBits xs = bitsNumber (map (λ (y : Line). y .stable) xs)
 
 unfoldable pub sampledOf : ℕ → Settings → Inputs → Sampled
-sampledOf bits s x = record { inputs = inputsSampled bits s x; edges = edges (x .lines) (inputsSampled bits s x .lines) }
+sampledOf bits s x =
+    let es = edges (x .lines) (inputsSampled bits s x .lines) in
+    record { inputs = inputsSampled bits s x; edges = es; edged = any (λ b. b) es }

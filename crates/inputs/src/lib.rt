@@ -9,10 +9,11 @@ use model::Inputs;
 use model::Line;
 use model::Settings;
 
-// The inputs after a sample, and which of them had an edge.
+// The inputs after a sample, which of them had an edge, and whether any had.
 pub struct Sampled {
     pub inputs: Inputs,
     pub edges: [bool; 16],
+    pub edged: bool,
 }
 
 // Bit i of a sample or of a mask.
@@ -162,10 +163,11 @@ pub fn sample(s: Settings, x: Inputs, bits: u16) -> Sampled
 {
     let was = x.lines;
     let now = sample_lines(was, s.sampling, bits);
-    let edged = edges_of(was, now);
+    let edges = edges_of(was, now);
+    let edged = any_edge(edges);
     let mut next = x;
     next.lines = now;
-    if any_edge(edged) {
+    if edged {
         let modes = s.modes;
         let counters = x.counters;
         let counted = count_lines(counters, modes, was, now);
@@ -173,6 +175,7 @@ pub fn sample(s: Settings, x: Inputs, bits: u16) -> Sampled
     }
     Sampled {
         inputs: next,
-        edges: edged,
+        edges,
+        edged,
     }
 }

@@ -1,5 +1,6 @@
 // The five calls: fresh, sample, temperature, spinel, modbus; and what demands 1 and 3 say of them.
 ghost use mathlib.Core.Path.{_≡_};
+ghost use mathlib.Core.Bool.{_&&_};
 ghost use Prim.Native.Nat.{_≤_};
 ghost use lib.ListN.{length, take};
 ghost use Rattle.lists.specs.Data.{held, over};
@@ -64,13 +65,16 @@ fn notice_data(address: u8, signature: u8, bits: u16) -> Data
 }
 
 // Whether a notice is due after these edges.
-fn notice_due(n: Notice, edged: [bool; 16]) -> bool
-    ensures { λ r. ⌜ r ≡ noticed n edged ⌝ }
+fn notice_due(n: Notice, edged: bool, edges: [bool; 16]) -> bool
+    ensures { λ r. ⌜ r ≡ (edged && noticed n edges) ⌝ }
 {
+    if !edged {
+        return false;
+    }
     if n.format == 0 {
         return false;
     }
-    inputs::any_masked(n.mask, edged)
+    inputs::any_masked(n.mask, edges)
 }
 
 // Debounce and counting, then the pulses; and whether a notice is due.
@@ -82,9 +86,9 @@ fn step(m: Module, bits: u16) -> Stepped
     let kept = m.settings;
     let s = inputs::sample(kept, x, bits);
     let stepped = s.inputs;
-    let edged = s.edges;
+    let edges = s.edges;
     let pulsed = outputs::pulse_outputs(os);
-    let noticed = notice_due(kept.notice, edged);
+    let noticed = notice_due(kept.notice, s.edged, edges);
     let mut next = m;
     next.inputs = stepped;
     next.outputs = pulsed;

@@ -17,7 +17,7 @@ returns : tie.Need-returns
 returns c =
     let at = c .before .before .before .before in
     let a = at .before .before .before .before .args in
-    with-edge (a .bits) (a .s) (a .x) _ (at .before .before .sample-lines .ensures) _ (at .before .edges-of .ensures) _ (c .count-lines .ensures)
+    with-edge (a .bits) (a .s) (a .x) _ (at .before .before .sample-lines .ensures) _ (at .before .edges-of .ensures) _ (at .any-edge .ensures) _ (c .count-lines .ensures)
 
 returns-2 : tie.Need-returns-2
 returns-2 c =

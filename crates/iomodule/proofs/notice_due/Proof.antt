@@ -1,17 +1,24 @@
 -- `iomodule::notice_due` meets its contract. Assumes nothing.
-use borrow.Author.Tests.{eq-eqb, ne-eqb}
+use borrow.Author.Tests.{not-true, not-false, eq-eqb, ne-eqb}
 use Rattle.model.specs.Notice.{noticed}
 use Rattle.inputs.specs.Passes.{anyMasked}
 use Rattle.iomodule.proofs.notice_due.Statement.{statement}
 use Rattle.iomodule.proofs.notice_due.Tie as tie
 
 returns : tie.Need-returns
-unfolding noticed
-returns c = rw (eq-eqb _ _ (c .if1 .taken))
+returns c = rw (not-true (c .before .args .edged) (c .if1 .taken))
 
 returns-2 : tie.Need-returns-2
+unfolding noticed
+returns-2 c =
+    let at = c .before .before in
+    rw (not-false (at .before .args .edged) (at .if1 .left), eq-eqb _ _ (c .if2 .taken))
+
+returns-3 : tie.Need-returns-3
 unfolding noticed anyMasked
-returns-2 c = rw (ne-eqb _ _ (c .before .if1 .left)) (c .any-masked .ensures)
+returns-3 c =
+    let at = c .before .before .before in
+    rw (not-false (at .before .args .edged) (at .if1 .left), ne-eqb _ _ (c .before .if2 .left)) (c .any-masked .ensures)
 
 pub notice-due-spec : {M : Type 1} → statement M
-notice-due-spec = tie.close (tie.spec returns (λ c κs. tt) returns-2)
+notice-due-spec = tie.close (tie.spec returns returns-2 (λ c κs. tt) returns-3)
