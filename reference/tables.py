@@ -20,7 +20,7 @@ PROOFS = os.path.join(ROOT, "crates/model/proofs/")
 SPECS = """State Times Samples Frames Refusals Wire Counters Temperature Outputs Notice Registers Spinel Modbus Call Calls Demand1 Tally Cycles
 Parts""".split()
 LISTS = "Tests Mapi Walk Numbers Chunks Entries".split()
-SHUT = {"done", "walk", "someBelow"}
+SHUT = {"done", "walk", "someBelow", "entriesOf", "entryAdded"}
 WIDTH = 150
 
 
@@ -175,7 +175,8 @@ PLACES = {
        withReading withNotice withSpinel withModbus line output preset thermostat notice port freshLine freshOutput freshPreset
        freshThermostat""".split()},
     "set": "lib.ListN", "Valid": "Rattle.model.specs.declared.Reading.the-variants", "ofBits": "lib.Ieee", "binary32": "lib.Ieee", "Call": "Rattle.model.specs.Call", "Tally": "Rattle.model.specs.Tally", "finalTally": "Rattle.model.specs.Cycles",
-    "run": "Rattle.model.specs.Calls", "computing": "Rattle.model.proofs.Computing", "cycles": "Rattle.model.proofs.Wraps",
+    "run": "Rattle.model.specs.Calls", "computing": "Rattle.model.proofs.Computing", "unchecked": "Rattle.model.proofs.Computing",
+    "eqb-same": "Rattle.model.proofs.Checksums", "passed": "Rattle.model.proofs.Checksums", "cycles": "Rattle.model.proofs.Wraps",
     "wraps": "Rattle.model.proofs.Wraps", "cond": "mathlib.Core.Bool", "getD": "lib.ListN",
     "Module": "Rattle.model.specs.declared.Module", "readingWords": "Rattle.model.specs.Temperature",
     "resetsModule": "Rattle.model.specs.Demand1", "leaves": "Rattle.model.specs.Parts",
@@ -209,13 +210,27 @@ def uses(text):
 
 # states that a law gives, because they are too far for computing
 LAWS = {"(run freshModule (cycles 32767))": "wraps"}
+# calls whose CRC a row takes from the definition
+CLOSED = re.compile(r"\b(sent|sentTo|requested|written|switched) ")
+
+
+def answer(case, text):
+    """The proof of a case that need not compute the CRC of the frames it closes itself."""
+    if str(case[2]) in LAWS:
+        return LAWS[str(case[2])]
+    if "modbusFrame" in text:
+        return "unfold computing in refl"
+    return f"passed _ _ _ {'(simp eqb-same)' if CLOSED.search(text) else 'refl'} refl"
 
 
 def table(record, top, cases, write=case_text, before=""):
     value = record[0].lower() + record[1:]
-    body = before + f"pub record {record} : Type 0 where\n" + "".join(write(*c) for c in cases)
-    body += f"\npub {value} : {record}\nunfolding computing\n{value} = record {{\n"
-    body += "".join(f"  {c[0]} = {LAWS.get(str(c[2]), 'refl')};\n" for c in cases) + "}\n"
+    texts = [write(*c) for c in cases]
+    body = before + f"pub record {record} : Type 0 where\n" + "".join(texts) + f"\npub {value} : {record}\n"
+    if write is case_text and sum(bool(CLOSED.search(t)) for t in texts) > 2 * sum("modbusFrame" in t for t in texts):
+        body += "unfolding unchecked\n" + f"{value} = record {{\n" + "".join(f"  {c[0]} = {answer(c, t)};\n" for c, t in zip(cases, texts)) + "}\n"
+    else:
+        body += f"unfolding computing\n{value} = record {{\n" + "".join(f"  {c[0]} = {LAWS.get(str(c[2]), 'refl')};\n" for c in cases) + "}\n"
     with open(PROOFS + record + ".antt", "w") as f:
         f.write(f"-- {top} Written by reference/tables.py. Assumes nothing.\n{uses(body)}\n{body}")
 
@@ -299,15 +314,24 @@ def computing():
             if found:
                 opened.append(use(f"{folder}.{f}", found))
                 names += found
-    names += ["flatMap", "div", "ofInt", "ofBits", "toBits", "isNan", "samplesInTurn"]
+    names += ["flatMap", "div", "ofInt", "ofBits", "toBits", "isNan", "samplesInTurn", "uncheckedStep", "uncheckedReplies"]
+    checked = ["crcBit", "crcBits", "crcByte", "crcOf", "replies"]
+    names = [n for n in names if n not in checked]
     text = """-- The definitions opened for computing on closed calls. Written by reference/tables.py. Assumes nothing.
 use mathlib.Core.List.{flatMap}
 use lib.Ieee.{div, ofInt, ofBits, toBits, isNan}
 """ + "".join(opened) + """use Rattle.model.proofs.Exchanges.{samplesInTurn}
+use Rattle.model.proofs.Checksums.{uncheckedStep, uncheckedReplies}
 
--- naming this on an `unfolding` line opens all that its own line names
-unfoldable pub computing : Unit {0}
-""" + "unfolding " + "\n    ".join(textwrap.wrap(" ".join(names), WIDTH - 10)) + "\n" + "computing = tt\n"
+-- naming this on an `unfolding` line opens all that its own line names: every definition but the CRC, for rows that go by `passed`
+unfoldable pub unchecked : Unit {0}
+""" + "unfolding " + "\n    ".join(textwrap.wrap(" ".join(names), WIDTH - 10)) + "\n" + f"""unchecked = tt
+
+-- and this the CRC too, for rows as they stand
+unfoldable pub computing : Unit {{0}}
+unfolding unchecked {" ".join(checked)}
+computing = tt
+"""
     with open(PROOFS + "Computing.antt", "w") as f:
         f.write(text)
 

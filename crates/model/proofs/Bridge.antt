@@ -12,7 +12,8 @@ use borrow.Author.Tests.{leb-true, leb-false, eqb-true, eqb-false, ltb-true, ltb
 use Rattle.lists.specs.Tests.{within}
 use Rattle.lists.specs.Chunks.{chunks, chunksOf}
 use Rattle.lists.specs.Numbers.{number}
-use Rattle.lists.specs.Entries.{Entry, entries, entryOf, numbered}
+use Rattle.lists.specs.declared.Entry.{Entry}
+use Rattle.lists.specs.Entries.{entries, entryOf, numbered}
 use Rattle.lists.proofs.Choices.{and-left, and-right, within-low}
 use Rattle.lists.proofs.ChunkLaws.{chunks-cons, entries-cons}
 use Rattle.model.specs.State.{line}

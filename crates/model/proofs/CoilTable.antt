@@ -5,7 +5,8 @@ use mathlib.Core.List.{[], _∷_}
 use lib.ListN.{replicate}
 use lib.IntN.{pos}
 use Rattle.model.specs.State.{freshModule}
-use Rattle.model.proofs.Computing.{computing}
+use Rattle.model.proofs.Computing.{unchecked}
+use Rattle.model.proofs.Checksums.{eqb-same, passed}
 use Rattle.model.proofs.Exchanges.{Plays, _⇒_, sampleOf, temperatureOf, asked, sent, requested, switched, silently, answers, gives, shows}
 use Rattle.model.proofs.Exchanges.{echoes, excepts}
 
@@ -147,13 +148,13 @@ pub record CoilTable : Type 0 where
       [])
 
 pub coilTable : CoilTable
-unfolding computing
+unfolding unchecked
 coilTable = record {
-  readCoils = refl;
-  readCoilLimits = refl;
-  readInputs = refl;
-  coilWritten = refl;
-  coilsWritten = refl;
-  coilsLimits = refl;
-  coilsHeld = refl;
+  readCoils = passed _ _ _ (simp eqb-same) refl;
+  readCoilLimits = passed _ _ _ (simp eqb-same) refl;
+  readInputs = passed _ _ _ (simp eqb-same) refl;
+  coilWritten = passed _ _ _ (simp eqb-same) refl;
+  coilsWritten = passed _ _ _ (simp eqb-same) refl;
+  coilsLimits = passed _ _ _ (simp eqb-same) refl;
+  coilsHeld = passed _ _ _ (simp eqb-same) refl;
 }

@@ -37,23 +37,29 @@ use Rattle.model.specs.Tally.{tallied, feed, tally, clears, stayed}
 use Rattle.model.specs.Cycles.{events}
 use Rattle.model.specs.Parts.{spinelLeaves, registersLeave, modbusLeaves, leaves}
 use Rattle.model.proofs.Exchanges.{samplesInTurn}
+use Rattle.model.proofs.Checksums.{uncheckedStep, uncheckedReplies}
 
--- naming this on an `unfolding` line opens all that its own line names
-unfoldable pub computing : Unit {0}
+-- naming this on an `unfolding` line opens all that its own line names: every definition but the CRC, for rows that go by `passed`
+unfoldable pub unchecked : Unit {0}
 unfolding within all any mapi allPass bytes bitsNumber chunksOf chunks entryOf entries numbered freshModule lineSampled linesSampled selects
-    selectedEdge edges counted countersSampled inputsSampled total spinelReply crcBit crcBits crcByte crcOf withCrc shapeWrong sumWrong crcWrong
-    spinelAddressWrong modbusAddressWrong spinelBroadcastWrong modbusBroadcastWrong checkingOrder firstHolding refusalOf judged ackOf
-    exceptionOf frameRefusal frameAnswered frameActed frameHandled frameCall itemsOf listed listRead parameters readOne valuesRead readCounters
-    deductible deductOne deduct clearAll deductCounters modeSettable setMode setModes setModesList modeShown setSampling readSampling runsEnded
-    reset givePermission setPort readPort resetModule signedOf patternOf degrees readingOf readingShown readTemperature floatBits readingWords
-    thermostatFits groupThermostat groupFits setGroup setThermostats groupShown readThermostats free freeAt levelled crossed crossing heated
-    failed taken pulsed remaining setByte setOutput startPulse actOn setOutputs pulseOutputs setPulses presetSettable setPreset setPresets
-    startPreset presetReady startPresets pulseShown presetShown modeByte readStates setNotice readNotice noticed noticeFrame noticeWritten
-    readWords packed readBits outputWord thermostatWords readThermostat writePermission portSettable setPortField writePort isZero clearOne
-    writeCounters writeDeductions writeModes writePulse wordsThermostat writeThermostat writeCoils spinelAsked spinelRequest quantityWrong
-    countWrong words bitsFrom registersRead registersWritten coilWritten registerWritten coilsWritten severalWritten modbusAsked sampled
-    sampleCall temperatureCall step run replies requestChecks frameChecks checks permissionEnded isBroadcast refusalReply givesPermission
-    resetsModule portPermitted selectedBy sampledAccount amounts modeGiven takenBy takenFrom spinelCollects spinelClears spinelResets spinelMode
+    selectedEdge edges counted countersSampled inputsSampled total spinelReply withCrc shapeWrong sumWrong crcWrong spinelAddressWrong
+    modbusAddressWrong spinelBroadcastWrong modbusBroadcastWrong checkingOrder firstHolding refusalOf judged ackOf exceptionOf frameRefusal
+    frameAnswered frameActed frameHandled frameCall itemsOf listed listRead parameters readOne valuesRead readCounters deductible deductOne
+    deduct clearAll deductCounters modeSettable setMode setModes setModesList modeShown setSampling readSampling runsEnded reset givePermission
+    setPort readPort resetModule signedOf patternOf degrees readingOf readingShown readTemperature floatBits readingWords thermostatFits
+    groupThermostat groupFits setGroup setThermostats groupShown readThermostats free freeAt levelled crossed crossing heated failed taken
+    pulsed remaining setByte setOutput startPulse actOn setOutputs pulseOutputs setPulses presetSettable setPreset setPresets startPreset
+    presetReady startPresets pulseShown presetShown modeByte readStates setNotice readNotice noticed noticeFrame noticeWritten readWords packed
+    readBits outputWord thermostatWords readThermostat writePermission portSettable setPortField writePort isZero clearOne writeCounters
+    writeDeductions writeModes writePulse wordsThermostat writeThermostat writeCoils spinelAsked spinelRequest quantityWrong countWrong words
+    bitsFrom registersRead registersWritten coilWritten registerWritten coilsWritten severalWritten modbusAsked sampled sampleCall
+    temperatureCall step run requestChecks frameChecks checks permissionEnded isBroadcast refusalReply givesPermission resetsModule
+    portPermitted selectedBy sampledAccount amounts modeGiven takenBy takenFrom spinelCollects spinelClears spinelResets spinelMode
     spinelSampling writes written modbusCollects modbusClears modbusResets modbusMode changed tallied feed tally clears stayed events
-    spinelLeaves registersLeave modbusLeaves leaves flatMap div ofInt ofBits toBits isNan samplesInTurn
+    spinelLeaves registersLeave modbusLeaves leaves flatMap div ofInt ofBits toBits isNan samplesInTurn uncheckedStep uncheckedReplies
+unchecked = tt
+
+-- and this the CRC too, for rows as they stand
+unfoldable pub computing : Unit {0}
+unfolding unchecked crcBit crcBits crcByte crcOf replies
 computing = tt

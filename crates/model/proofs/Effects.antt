@@ -12,7 +12,7 @@ use borrow.Author.Tests.{leb-true, eqb-true, eqb-false, ne-eqb}
 use Rattle.lists.specs.Tests.{all}
 use Rattle.lists.specs.Walk.{allPass}
 use Rattle.lists.specs.Numbers.{bytes}
-use Rattle.lists.specs.Entries.{Entry}
+use Rattle.lists.specs.declared.Entry.{Entry}
 use Rattle.lists.proofs.Choices.{and-left, and-right, within-low, all-first, all-rest}
 use Rattle.model.specs.declared.Line.{Line}
 use Rattle.model.specs.State.{line, freshLine}

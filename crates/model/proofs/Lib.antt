@@ -1,4 +1,5 @@
 pub mod Exchanges
+pub mod Checksums
 pub mod Computing
 pub mod RackTable
 pub mod Witnesses

@@ -9,7 +9,8 @@ use lib.ListN.{length, take, drop}
 use lib.Dec.{leb, ltb, eqb}
 use borrow.Author.Tests.{eqb-true, ltb-false, not-false, le-leb}
 use Rattle.lists.specs.Tests.{all}
-use Rattle.lists.specs.Entries.{Entry, numbered}
+use Rattle.lists.specs.declared.Entry.{Entry}
+use Rattle.lists.specs.Entries.{numbered}
 use Rattle.lists.proofs.Choices.{cond-case, cond-eq, or-left, or-right, within-low, within-high}
 use Rattle.model.specs.declared.Module.{Module}
 use Rattle.model.specs.declared.Group.{Group}

@@ -2,7 +2,8 @@
 use mathlib.Core.Path.{refl}
 use mathlib.Core.List.{[], _∷_, _++_}
 use Rattle.model.specs.State.{freshModule}
-use Rattle.model.proofs.Computing.{computing}
+use Rattle.model.proofs.Computing.{unchecked}
+use Rattle.model.proofs.Checksums.{eqb-same, passed}
 use Rattle.model.proofs.Exchanges.{Plays, _⇒_, sampleOf, asked, askedBy, requested, silently, answers, answersTo, refuses, refusesTo}
 use Rattle.model.proofs.Exchanges.{announces, echoes, quiet}
 
@@ -101,13 +102,13 @@ pub record NoticeTable : Type 0 where
       [])
 
 pub noticeTable : NoticeTable
-unfolding computing
+unfolding unchecked
 noticeTable = record {
-  turnedOn = refl;
-  masked = refl;
-  maskZero = refl;
-  onlyEdges = refl;
-  notTurned = refl;
-  ownAddress = refl;
-  afterPulses = refl;
+  turnedOn = passed _ _ _ refl refl;
+  masked = passed _ _ _ refl refl;
+  maskZero = passed _ _ _ refl refl;
+  onlyEdges = passed _ _ _ refl refl;
+  notTurned = passed _ _ _ refl refl;
+  ownAddress = passed _ _ _ (simp eqb-same) refl;
+  afterPulses = passed _ _ _ refl refl;
 }

@@ -5,7 +5,7 @@ use mathlib.Core.Path.{_≡_, refl}
 use mathlib.Core.List.{List, [], _∷_}
 use mathlib.Core.Bool.{Bool, true, false, cond, _||_}
 use lib.Dec.{eqb}
-use Rattle.lists.specs.Entries.{Entry}
+use Rattle.lists.specs.declared.Entry.{Entry}
 use Rattle.lists.proofs.Choices.{or-left, or-right}
 
 -- the amounts of input i (counted from 0)

@@ -5,7 +5,8 @@ use mathlib.Core.List.{[], _∷_, _++_}
 use lib.ListN.{replicate, set}
 use lib.IntN.{pos}
 use Rattle.model.specs.State.{freshModule}
-use Rattle.model.proofs.Computing.{computing}
+use Rattle.model.proofs.Computing.{unchecked}
+use Rattle.model.proofs.Checksums.{eqb-same, passed}
 use Rattle.model.proofs.Exchanges.{Plays, _⇒_, sampleOf, temperatureOf, asked, requested, silently, answers, refuses, gives, echoes, quiet}
 
 pub record OutputTable : Type 0 where
@@ -255,20 +256,20 @@ pub record OutputTable : Type 0 where
       [])
 
 pub outputTable : OutputTable
-unfolding computing
+unfolding unchecked
 outputTable = record {
-  set = refl;
-  setRefused = refl;
-  pulses = refl;
-  pulseTimes = refl;
-  pulseRefused = refl;
-  pulseEnded = refl;
-  presets = refl;
-  presetsRefused = refl;
-  started = refl;
-  startRefused = refl;
-  listReads = refl;
-  states = refl;
-  held = refl;
-  shownModes = refl;
+  set = passed _ _ _ (simp eqb-same) refl;
+  setRefused = passed _ _ _ refl refl;
+  pulses = passed _ _ _ refl refl;
+  pulseTimes = passed _ _ _ refl refl;
+  pulseRefused = passed _ _ _ refl refl;
+  pulseEnded = passed _ _ _ (simp eqb-same) refl;
+  presets = passed _ _ _ refl refl;
+  presetsRefused = passed _ _ _ refl refl;
+  started = passed _ _ _ refl refl;
+  startRefused = passed _ _ _ refl refl;
+  listReads = passed _ _ _ refl refl;
+  states = passed _ _ _ refl refl;
+  held = passed _ _ _ refl refl;
+  shownModes = passed _ _ _ refl refl;
 }

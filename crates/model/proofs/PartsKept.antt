@@ -33,43 +33,42 @@ ended-twice [] = refl
 ended-twice (l ∷ ls) = ap (line (l .stable) 0 ∷_) (ended-twice ls)
 
 module _ (m : Module) where
-  -- Spinel
-  module _ (q : SpinelRequest) where
-    abbrev left : ℕ → Module → Module
-    left i n = spinelLeaves i (withoutSpinelPermission n)
+  -- Spinel: the request leaves what instruction i leaves
+  record LeftAlone (i : ℕ) (r : Request Module) : Type 0 where
+    kept : spinelLeaves i (withoutSpinelPermission (r .after)) ≡ spinelLeaves i (withoutSpinelPermission m)
 
-    spinel-leaves : (i : ℕ) → q .instruction ≡ i → left i (spinelAsked q (usedUp spinelWire m) .after) ≡ left i m
-    unfolding spinelAsked spinelLeaves readNotice readThermostats readStates listRead readTemperature readSampling readPort setPort resetModule reset runsEnded setSampling givePermission
-    spinel-leaves i e =
-        rw e
-        (cond-eq P i 0x10 _ _ (λ e. rw e refl)
-        (cond-eq P i 0x11 _ _ (λ e. rw e refl)
-        (cond-eq P i 0x1A _ _ (λ e. rw e refl)
-        (cond-eq P i 0x1B _ _ (λ e. rw e refl)
-        (cond-eq P i 0x20 _ _ (λ e. rw e refl)
-        (cond-eq P i 0x23 _ _ (λ e. rw e refl)
-        (cond-eq P i 0x25 _ _ (λ e. rw e refl)
-        (cond-eq P i 0x26 _ _ (λ e. rw e refl)
-        (cond-eq P i 0x30 _ _ (λ e. rw e refl)
-        (cond-eq P i 0x31 _ _ (λ e. rw e refl)
-        (cond-eq P i 0x33 _ _ (λ e. rw e refl)
-        (cond-eq P i 0x36 _ _ (λ e. rw e refl)
-        (cond-eq P i 0x38 _ _ (λ e. rw e refl)
-        (cond-eq P i 0x51 _ _ (λ e. rw e refl)
-        (cond-eq P i 0x60 _ _ (λ e. rw e refl)
-        (cond-eq P i 0x61 _ _ (λ e. rw e refl)
-        (cond-eq P i 0x62 _ _ (λ e. rw e refl)
-        (cond-eq P i 0x63 _ _ (λ e. rw e refl)
-        (cond-eq P i 0x6A _ _ (λ e. rw e refl)
-        (cond-eq P i 0x6B _ _ (λ e. rw e refl)
-        (cond-eq P i 0xE0 _ _ (λ e. rw (e, ended-twice (m .inputs .lines)) refl)
-        (cond-eq P i 0xE3 _ _ (λ e. rw (e, ended-twice (m .inputs .lines)) refl)
-        (cond-eq P i 0xE4 _ _ (λ e. rw e refl)
-        (cond-eq P i 0xF0 _ _ (λ e. rw e refl)
-        refl))))))))))))))))))))))))
-      where
-        P : Request Module → Type 0
-        P r = left i (r .after) ≡ left i m
+  spinel-leaves : (q : SpinelRequest) (i : ℕ) → q .instruction ≡ i → LeftAlone i (spinelAsked q (usedUp spinelWire m))
+  unfolding spinelAsked spinelLeaves readNotice readThermostats readStates listRead readTemperature readSampling readPort setPort resetModule reset runsEnded setSampling givePermission
+  spinel-leaves q i e =
+      rw e
+      (cond-eq P i 0x10 _ _ (λ e. record { kept = rw e refl })
+      (cond-eq P i 0x11 _ _ (λ e. record { kept = rw e refl })
+      (cond-eq P i 0x1A _ _ (λ e. record { kept = rw e refl })
+      (cond-eq P i 0x1B _ _ (λ e. record { kept = rw e refl })
+      (cond-eq P i 0x20 _ _ (λ e. record { kept = rw e refl })
+      (cond-eq P i 0x23 _ _ (λ e. record { kept = rw e refl })
+      (cond-eq P i 0x25 _ _ (λ e. record { kept = rw e refl })
+      (cond-eq P i 0x26 _ _ (λ e. record { kept = rw e refl })
+      (cond-eq P i 0x30 _ _ (λ e. record { kept = rw e refl })
+      (cond-eq P i 0x31 _ _ (λ e. record { kept = rw e refl })
+      (cond-eq P i 0x33 _ _ (λ e. record { kept = rw e refl })
+      (cond-eq P i 0x36 _ _ (λ e. record { kept = rw e refl })
+      (cond-eq P i 0x38 _ _ (λ e. record { kept = rw e refl })
+      (cond-eq P i 0x51 _ _ (λ e. record { kept = rw e refl })
+      (cond-eq P i 0x60 _ _ (λ e. record { kept = rw e refl })
+      (cond-eq P i 0x61 _ _ (λ e. record { kept = rw e refl })
+      (cond-eq P i 0x62 _ _ (λ e. record { kept = rw e refl })
+      (cond-eq P i 0x63 _ _ (λ e. record { kept = rw e refl })
+      (cond-eq P i 0x6A _ _ (λ e. record { kept = rw e refl })
+      (cond-eq P i 0x6B _ _ (λ e. record { kept = rw e refl })
+      (cond-eq P i 0xE0 _ _ (λ e. record { kept = rw (e, ended-twice (m .inputs .lines)) refl })
+      (cond-eq P i 0xE3 _ _ (λ e. record { kept = rw (e, ended-twice (m .inputs .lines)) refl })
+      (cond-eq P i 0xE4 _ _ (λ e. record { kept = rw e refl })
+      (cond-eq P i 0xF0 _ _ (λ e. record { kept = rw e refl })
+      (record { kept = refl })))))))))))))))))))))))))
+    where
+      P : Request Module → Type 0
+      P = LeftAlone i
 
   -- the request leaves what a write of registers from r on leaves
   record Left (r : ℕ) (q : Request Module) : Type 0 where
@@ -87,26 +86,25 @@ module _ (m : Module) where
       cond-case (Left r) (within 500 515 r) _ _ (λ e. record { kept = rw (a, b, c, d, e) refl }) λ f.
       cond-case (Left r) (within 600 663 r) _ _ (λ e. record { kept = rw (a, b, c, d, f, e) refl }) λ _. record { kept = refl }
 
-  -- Modbus
-  module _ (permitted : Bool) (b : List ℕ) where
-    abbrev leftBy : ℕ → Module → Module
-    leftBy fn n = modbusLeaves fn (startOf b) (withoutModbusPermission n)
+  -- Modbus: the request leaves what function fn leaves, from register r on
+  record LeftBy (fn r : ℕ) (q : Request Module) : Type 0 where
+    kept : modbusLeaves fn r (withoutModbusPermission (q .after)) ≡ modbusLeaves fn r (withoutModbusPermission m)
 
-    modbus-leaves : (fn : ℕ) → leftBy fn (modbusAsked permitted fn b (usedUp modbusWire m) .after) ≡ leftBy fn m
-    unfolding modbusAsked modbusLeaves readBits readWords coilWritten registerWritten coilsWritten severalWritten
-    modbus-leaves fn =
-        cond-eq P fn 0x01 _ _ (λ e. rw e refl)
-        (cond-eq P fn 0x02 _ _ (λ e. rw e refl)
-        (cond-eq P fn 0x03 _ _ (λ e. rw e refl)
-        (cond-eq P fn 0x04 _ _ (λ e. rw e refl)
-        (cond-eq P fn 0x05 _ _ (λ e. rw e refl)
-        (cond-eq P fn 0x06 _ _ (λ e. rw e (registers-leave permitted true (startOf b) _ .kept))
-        (cond-eq P fn 0x0F _ _ (λ e. rw e refl)
-        (cond-eq P fn 0x10 _ _ (λ e. rw e (registers-leave permitted false (startOf b) _ .kept))
-        refl)))))))
-      where
-        P : Request Module → Type 0
-        P q = leftBy fn (q .after) ≡ leftBy fn m
+  modbus-leaves : (permitted : Bool) (b : List ℕ) (fn : ℕ) → LeftBy fn (startOf b) (modbusAsked permitted fn b (usedUp modbusWire m))
+  unfolding modbusAsked modbusLeaves readBits readWords coilWritten registerWritten coilsWritten severalWritten
+  modbus-leaves permitted b fn =
+      cond-eq P fn 0x01 _ _ (λ e. record { kept = rw e refl })
+      (cond-eq P fn 0x02 _ _ (λ e. record { kept = rw e refl })
+      (cond-eq P fn 0x03 _ _ (λ e. record { kept = rw e refl })
+      (cond-eq P fn 0x04 _ _ (λ e. record { kept = rw e refl })
+      (cond-eq P fn 0x05 _ _ (λ e. record { kept = rw e refl })
+      (cond-eq P fn 0x06 _ _ (λ e. record { kept = rw e (registers-leave permitted true (startOf b) _ .kept) })
+      (cond-eq P fn 0x0F _ _ (λ e. record { kept = rw e refl })
+      (cond-eq P fn 0x10 _ _ (λ e. record { kept = rw e (registers-leave permitted false (startOf b) _ .kept) })
+      (record { kept = refl }))))))))
+    where
+      P : Request Module → Type 0
+      P = LeftBy fn (startOf b)
 
   -- the answer leaves what its call leaves
   record Kept (a : Act) (o : Out) : Type 0 where
@@ -116,13 +114,13 @@ module _ (m : Module) where
   unfolding spinelRequest leaves frameAnswered
   spinel-kept f =
       frame-either (Kept (spinel f)) spinelWire f m (λ _. record { kept = refl }) (λ _ _. record { kept = refl })
-      (λ _ _. record { kept = spinel-leaves (spinelRequest (m .spinel .permitted) f) _ refl })
+      (λ _ _. record { kept = spinel-leaves (spinelRequest (m .spinel .permitted) f) _ refl .kept })
 
   modbus-kept : (f : List ℕ) (room : ℕ) → Kept (modbus f) (modbusCall room f m)
   unfolding leaves frameAnswered
   modbus-kept f =
       frame-either (Kept (modbus f)) modbusWire f m (λ _. record { kept = refl }) (λ _ _. record { kept = refl })
-      (λ _ _. record { kept = modbus-leaves (m .modbus .permitted) (modbusBody f) (functionOf f) })
+      (λ _ _. record { kept = modbus-leaves (m .modbus .permitted) (modbusBody f) (functionOf f) .kept })
 
   taken-kept : (good : Bool) (tenths : ℤ) (r : Reading) → leaves (temperature good tenths) (taken r m) ≡ leaves (temperature good tenths) m
   unfolding taken leaves

@@ -4,7 +4,8 @@ use mathlib.Core.Path.{refl}
 use mathlib.Core.List.{[], _∷_, _++_}
 use lib.IntN.{pos}
 use Rattle.model.specs.State.{freshModule}
-use Rattle.model.proofs.Computing.{computing}
+use Rattle.model.proofs.Computing.{computing, unchecked}
+use Rattle.model.proofs.Checksums.{eqb-same, passed}
 use Rattle.model.proofs.Exchanges.{Plays, _⇒_, sampleOf, temperatureOf, spinelFrame, modbusFrame, asked, askedAt, askedBy, sent, sentTo}
 use Rattle.model.proofs.Exchanges.{requested, silently, answers, answersFrom, answersTo, refuses, refusesFrom, announces, gives, givesFrom}
 use Rattle.model.proofs.Exchanges.{shows, echoes, excepts, quiet}
@@ -367,22 +368,22 @@ pub record PortTable : Type 0 where
       [])
 
 pub portTable : PortTable
-unfolding computing
+unfolding unchecked
 portTable = record {
-  given = refl;
-  givenAgain = refl;
-  ranges = refl;
-  order = refl;
-  usedByRefusals = refl;
-  usedByAccepted = refl;
-  keptBySpinel = refl;
-  keptByModbus = refl;
-  usedByModbus = refl;
-  otherPort = refl;
-  resetEndsBoth = refl;
-  resets = refl;
-  resetByAddress = refl;
-  resetByRegister = refl;
-  resetKeepsReadings = refl;
-  before = refl;
+  given = passed _ _ _ refl refl;
+  givenAgain = passed _ _ _ refl refl;
+  ranges = passed _ _ _ refl refl;
+  order = passed _ _ _ refl refl;
+  usedByRefusals = passed _ _ _ refl refl;
+  usedByAccepted = passed _ _ _ refl refl;
+  keptBySpinel = passed _ _ _ (simp eqb-same) refl;
+  keptByModbus = unfold computing in refl;
+  usedByModbus = passed _ _ _ (simp eqb-same) refl;
+  otherPort = passed _ _ _ (simp eqb-same) refl;
+  resetEndsBoth = passed _ _ _ (simp eqb-same) refl;
+  resets = passed _ _ _ (simp eqb-same) refl;
+  resetByAddress = passed _ _ _ (simp eqb-same) refl;
+  resetByRegister = passed _ _ _ (simp eqb-same) refl;
+  resetKeepsReadings = passed _ _ _ refl refl;
+  before = passed _ _ _ refl refl;
 }

@@ -5,7 +5,8 @@ use mathlib.Core.List.{[], _∷_, _++_}
 use lib.IntN.{pos}
 use Rattle.model.specs.State.{freshModule}
 use Rattle.model.specs.Calls.{run}
-use Rattle.model.proofs.Computing.{computing}
+use Rattle.model.proofs.Computing.{unchecked}
+use Rattle.model.proofs.Checksums.{eqb-same, passed}
 use Rattle.model.proofs.Wraps.{cycles, wraps}
 use Rattle.model.proofs.Exchanges.{Plays, _⇒_, sampleOf, temperatureOf, spinelFrame, asked, requested, reply, silently, answers, refuses}
 use Rattle.model.proofs.Exchanges.{shows, excepts, quiet}
@@ -85,16 +86,16 @@ pub record RackTable : Type 0 where
       [])
 
 pub rackTable : RackTable
-unfolding computing
+unfolding unchecked
 rackTable = record {
-  A = refl;
-  B = refl;
-  C = refl;
-  D = refl;
-  E = refl;
+  A = passed _ _ _ refl refl;
+  B = passed _ _ _ refl refl;
+  C = passed _ _ _ refl refl;
+  D = passed _ _ _ refl refl;
+  E = passed _ _ _ refl refl;
   F = wraps;
-  G = refl;
-  H = refl;
-  I = refl;
-  J = refl;
+  G = passed _ _ _ refl refl;
+  H = passed _ _ _ refl refl;
+  I = passed _ _ _ (simp eqb-same) refl;
+  J = passed _ _ _ (simp eqb-same) refl;
 }

@@ -1,12 +1,12 @@
 -- What a reader takes from the claim of demand 3 by itself, and rows for what it is said with. Assumes nothing.
-use Prim.Native.Nat.{ℕ, _+_, _*_, _%_}
+use Prim.Native.Nat.{ℕ, _+_, _%_}
 use native.Mathlib.Omega.{arith}
 use mathlib.Core.Path.{_≡_, refl}
 use mathlib.Core.Bool.{true, false}
 use mathlib.Core.List.{List, [], _∷_, map}
 use lib.IntN.{pos}
 use Rattle.model.specs.State.{freshModule}
-use Rattle.model.specs.Call.{Call, Act}
+use Rattle.model.specs.Call.{Call}
 use Rattle.model.specs.Refusals.{telling, refuse}
 use Rattle.model.specs.Spinel.{spinelWire}
 use Rattle.model.specs.Demand1.{Check, greatest, frameChecks, isBroadcast}

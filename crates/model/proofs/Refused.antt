@@ -18,7 +18,7 @@ use Rattle.model.specs.Spinel.{spinelWire}
 use Rattle.model.specs.Modbus.{modbusWire}
 use Rattle.model.specs.Call.{Act, sample, temperature, spinel, modbus}
 use Rattle.model.specs.Calls.{sampled, sampleCall, temperatureCall, acted, step}
-use Rattle.model.specs.Demand1.{Check, check, greatest, requestChecks, frameChecks, wireChecks, checks, RefusedBy, here, later, NoneHolds, none, also, permissionEnded, isBroadcast, refusalReply, RefusalsHold}
+use Rattle.model.specs.Demand1.{Check, check, greatest, claimedOrder, requestChecks, frameChecks, wireChecks, checks, RefusedBy, here, later, NoneHolds, none, also, permissionEnded, isBroadcast, refusalReply, RefusalsHold}
 use Rattle.model.proofs.Judged.{judged-either}
 use Rattle.model.proofs.Short.{spinel-short, spinel-fits, modbus-short, modbus-fits, notice-fits}
 
@@ -98,7 +98,7 @@ module _ {P : Type 0} (p : P) where
   -- the claim's own list is the checking order
   pub judged-follows : (q : Request P) → Follows p (requestChecks q) (judged p q)
   unfolding judged requestChecks
-  judged-follows q = decided-follows _ _ q (first-by (7 ∷ 8 ∷ 9 ∷ 10 ∷ 11 ∷ 12 ∷ []) q)
+  judged-follows q = decided-follows _ _ q (first-by claimedOrder q)
 
 request-numbered : {P : Type 0} (q : Request P) → Numbered 7 greatest (requestChecks q)
 unfolding requestChecks

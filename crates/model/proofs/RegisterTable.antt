@@ -5,7 +5,8 @@ use mathlib.Core.List.{[], _∷_}
 use lib.ListN.{replicate}
 use lib.IntN.{pos}
 use Rattle.model.specs.State.{freshModule}
-use Rattle.model.proofs.Computing.{computing}
+use Rattle.model.proofs.Computing.{unchecked}
+use Rattle.model.proofs.Checksums.{eqb-same, passed}
 use Rattle.model.proofs.Exchanges.{Plays, _⇒_, sampleOf, temperatureOf, asked, askedAt, sent, sentTo, requested, written, silently, answers}
 use Rattle.model.proofs.Exchanges.{answersFrom, givesFrom, shows, echoes, excepts, exceptsFrom}
 
@@ -395,24 +396,24 @@ pub record RegisterTable : Type 0 where
       [])
 
 pub registerTable : RegisterTable
-unfolding computing
+unfolding unchecked
 registerTable = record {
-  readGroups = refl;
-  readPast = refl;
-  readLengths = refl;
-  permissionRegister = refl;
-  addressRegister = refl;
-  speedRegister = refl;
-  portsApart = refl;
-  countersWritten = refl;
-  deductionsWritten = refl;
-  modesWritten = refl;
-  outputsWritten = refl;
-  outputsHeld = refl;
-  thermostatWritten = refl;
-  thermostatValues = refl;
-  thermostatRange = refl;
-  writeNowhere = refl;
-  writeLengths = refl;
-  echoes = refl;
+  readGroups = passed _ _ _ (simp eqb-same) refl;
+  readPast = passed _ _ _ (simp eqb-same) refl;
+  readLengths = passed _ _ _ (simp eqb-same) refl;
+  permissionRegister = passed _ _ _ (simp eqb-same) refl;
+  addressRegister = passed _ _ _ (simp eqb-same) refl;
+  speedRegister = passed _ _ _ (simp eqb-same) refl;
+  portsApart = passed _ _ _ (simp eqb-same) refl;
+  countersWritten = passed _ _ _ (simp eqb-same) refl;
+  deductionsWritten = passed _ _ _ (simp eqb-same) refl;
+  modesWritten = passed _ _ _ (simp eqb-same) refl;
+  outputsWritten = passed _ _ _ (simp eqb-same) refl;
+  outputsHeld = passed _ _ _ (simp eqb-same) refl;
+  thermostatWritten = passed _ _ _ (simp eqb-same) refl;
+  thermostatValues = passed _ _ _ (simp eqb-same) refl;
+  thermostatRange = passed _ _ _ (simp eqb-same) refl;
+  writeNowhere = passed _ _ _ (simp eqb-same) refl;
+  writeLengths = passed _ _ _ (simp eqb-same) refl;
+  echoes = passed _ _ _ (simp eqb-same) refl;
 }

@@ -3,7 +3,8 @@ use mathlib.Core.Path.{refl}
 use mathlib.Core.List.{[], _∷_, _++_}
 use lib.ListN.{replicate}
 use Rattle.model.specs.State.{freshModule, withInputs, withSampling, withModes, freshLine}
-use Rattle.model.proofs.Computing.{computing}
+use Rattle.model.proofs.Computing.{unchecked}
+use Rattle.model.proofs.Checksums.{eqb-same, passed}
 use Rattle.model.proofs.Exchanges.{Plays, _⇒_, sampleOf, lending, asked, requested, silently, answers, refuses, gives, shows, echoes, excepts}
 use Rattle.model.proofs.Exchanges.{quiet, inTurn}
 
@@ -170,18 +171,18 @@ pub record SampleTable : Type 0 where
       [])
 
 pub sampleTable : SampleTable
-unfolding computing
+unfolding unchecked
 sampleTable = record {
-  equalEndsRun = refl;
-  longest = refl;
-  numberOne = refl;
-  numberTwo = refl;
-  numberChanged = refl;
-  numberReached = refl;
-  modesSelect = refl;
-  modeAtThatMoment = refl;
-  sixteenth = refl;
-  refusedSample = refl;
-  highCounts = refl;
-  pastTheLimit = refl;
+  equalEndsRun = passed _ _ _ refl refl;
+  longest = passed _ _ _ refl refl;
+  numberOne = passed _ _ _ (simp eqb-same) refl;
+  numberTwo = passed _ _ _ refl refl;
+  numberChanged = passed _ _ _ refl refl;
+  numberReached = passed _ _ _ refl refl;
+  modesSelect = passed _ _ _ refl refl;
+  modeAtThatMoment = passed _ _ _ refl refl;
+  sixteenth = passed _ _ _ refl refl;
+  refusedSample = passed _ _ _ refl refl;
+  highCounts = passed _ _ _ (simp eqb-same) refl;
+  pastTheLimit = passed _ _ _ refl refl;
 }

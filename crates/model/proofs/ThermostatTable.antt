@@ -5,7 +5,8 @@ use mathlib.Core.List.{[], _∷_, _++_}
 use lib.ListN.{replicate}
 use lib.IntN.{pos, negsuc}
 use Rattle.model.specs.State.{freshModule}
-use Rattle.model.proofs.Computing.{computing}
+use Rattle.model.proofs.Computing.{unchecked}
+use Rattle.model.proofs.Checksums.{eqb-same, passed}
 use Rattle.model.proofs.Exchanges.{Plays, _⇒_, sampleOf, temperatureOf, asked, sent, requested, written, switched, silently, answers, refuses}
 use Rattle.model.proofs.Exchanges.{shows, echoes, excepts, quiet}
 
@@ -521,30 +522,30 @@ pub record ThermostatTable : Type 0 where
       [])
 
 pub thermostatTable : ThermostatTable
-unfolding computing
+unfolding unchecked
 thermostatTable = record {
-  readings = refl;
-  inputRegisters = refl;
-  inputRegisterLimits = refl;
-  groupsStored = refl;
-  groupLengths = refl;
-  groupNumbers = refl;
-  groupLimits = refl;
-  groupIdle = refl;
-  levels = refl;
-  levelsReversed = refl;
-  levelsIgnoreK = refl;
-  levelsEndPulses = refl;
-  crossingUp = refl;
-  crossingDown = refl;
-  crossingOff = refl;
-  crossingLast = refl;
-  crossingTime = refl;
-  noCrossing = refl;
-  faults = refl;
-  faultsEndPulses = refl;
-  settingsEndNone = refl;
-  holding = refl;
-  holdingNow = refl;
-  holdingAnySS = refl;
+  readings = passed _ _ _ refl refl;
+  inputRegisters = passed _ _ _ (simp eqb-same) refl;
+  inputRegisterLimits = passed _ _ _ (simp eqb-same) refl;
+  groupsStored = passed _ _ _ refl refl;
+  groupLengths = passed _ _ _ refl refl;
+  groupNumbers = passed _ _ _ refl refl;
+  groupLimits = passed _ _ _ refl refl;
+  groupIdle = passed _ _ _ refl refl;
+  levels = passed _ _ _ refl refl;
+  levelsReversed = passed _ _ _ refl refl;
+  levelsIgnoreK = passed _ _ _ refl refl;
+  levelsEndPulses = passed _ _ _ refl refl;
+  crossingUp = passed _ _ _ refl refl;
+  crossingDown = passed _ _ _ refl refl;
+  crossingOff = passed _ _ _ refl refl;
+  crossingLast = passed _ _ _ refl refl;
+  crossingTime = passed _ _ _ (simp eqb-same) refl;
+  noCrossing = passed _ _ _ refl refl;
+  faults = passed _ _ _ refl refl;
+  faultsEndPulses = passed _ _ _ refl refl;
+  settingsEndNone = passed _ _ _ (simp eqb-same) refl;
+  holding = passed _ _ _ (simp eqb-same) refl;
+  holdingNow = passed _ _ _ (simp eqb-same) refl;
+  holdingAnySS = passed _ _ _ refl refl;
 }

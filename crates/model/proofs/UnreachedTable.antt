@@ -8,7 +8,8 @@ use Rattle.model.specs.State.{freshModule, withInputs, withSampling, wit
 use Rattle.model.specs.State.{withSpinel, withModbus, line, preset, thermostat, notice, port, freshLine, freshPreset, freshThermostat}
 use Rattle.model.specs.declared.Reading.the-variants.{Valid}
 use lib.Ieee.{ofBits, binary32}
-use Rattle.model.proofs.Computing.{computing}
+use Rattle.model.proofs.Computing.{unchecked}
+use Rattle.model.proofs.Checksums.{eqb-same, passed}
 use Rattle.model.proofs.Exchanges.{Plays, _⇒_, sampleOf, temperatureOf, asked, askedAt, sentTo, requested, silently, answers, answersFrom}
 use Rattle.model.proofs.Exchanges.{refuses, refusesFrom, announces, givesFrom, shows}
 
@@ -171,26 +172,26 @@ pub record UnreachedTable : Type 0 where
       [])
 
 pub unreachedTable : UnreachedTable
-unfolding computing
+unfolding unchecked
 unreachedTable = record {
-  numberZero = refl;
-  runOf255 = refl;
-  runEnded = refl;
-  modeFour = refl;
-  notANumber = refl;
-  presetOne = refl;
-  presetTimeZero = refl;
-  timeZero = refl;
-  limitsExchanged = refl;
-  errThree = refl;
-  sensorTwo = refl;
-  sensorFifteen = refl;
-  offWithMask = refl;
-  modesLacking = refl;
-  countersLacking = refl;
-  formatOther = refl;
-  ownUniversal = refl;
-  ownBroadcast = refl;
-  ownFF = refl;
-  ownZero = refl;
+  numberZero = passed _ _ _ refl refl;
+  runOf255 = passed _ _ _ refl refl;
+  runEnded = passed _ _ _ refl refl;
+  modeFour = passed _ _ _ refl refl;
+  notANumber = passed _ _ _ (simp eqb-same) refl;
+  presetOne = passed _ _ _ refl refl;
+  presetTimeZero = passed _ _ _ refl refl;
+  timeZero = passed _ _ _ refl refl;
+  limitsExchanged = passed _ _ _ refl refl;
+  errThree = passed _ _ _ refl refl;
+  sensorTwo = passed _ _ _ refl refl;
+  sensorFifteen = passed _ _ _ refl refl;
+  offWithMask = passed _ _ _ refl refl;
+  modesLacking = passed _ _ _ refl refl;
+  countersLacking = passed _ _ _ refl refl;
+  formatOther = passed _ _ _ refl refl;
+  ownUniversal = passed _ _ _ refl refl;
+  ownBroadcast = passed _ _ _ refl refl;
+  ownFF = passed _ _ _ (simp eqb-same) refl;
+  ownZero = passed _ _ _ (simp eqb-same) refl;
 }
