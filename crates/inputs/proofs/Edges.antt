@@ -12,10 +12,9 @@ use Rattle.lists.specs.Numbers.{bitAt}
 use Rattle.lists.proofs.Done.{length-mapi}
 use Rattle.lists.proofs.Somes.{some-any, some-false, some-of, none-below, mapi-same}
 use Rattle.model.specs.declared.Inputs.{Inputs}
-use Rattle.model.specs.declared.Settings.{Settings}
 use Rattle.model.specs.declared.Line.{Line}
 use Rattle.model.specs.State.{freshLine}
-use Rattle.model.specs.Samples.{isEdge, edges, selects, selectedEdge, counted, linesSampled, countersSampled, inputsSampled}
+use Rattle.model.specs.Samples.{isEdge, edges, selects, selectedEdge, counted, linesSampled, countersSampled}
 use Rattle.inputs.specs.Passes.{anyMasked, sampledOf}
 
 -- without an edge no counter moves
@@ -50,16 +49,16 @@ no-mask mask edged h =
     ∙ none-below _ (length edged) (λ i l. rw (some-false (λ k. getD edged k false) (length edged) i (sym (some-of edged) ∙ h) l))
 
 -- the inputs' part of a sample, by whether a line had an edge
-module _ (bits : ℕ) (s : Settings) (x : Inputs) (now : List Line) (e : now ≡ linesSampled (s .sampling) bits (x .lines)) (es : List Bool) (q : es ≡ edges (x .lines) now) (t : Bool) (p : t ≡ any (λ b. b) es) where
-  pub with-edge : (cs : List ℕ) → cs ≡ countersSampled (s .modes) (x .lines) now (x .counters)
-      → record { inputs = record { lines = now; counters = cs }; edges = es; edged = t } ≡ sampledOf bits s x
-  unfolding sampledOf inputsSampled
+module _ (bits number : ℕ) (modes : List ℕ) (x : Inputs) (now : List Line) (e : now ≡ linesSampled number bits (x .lines)) (es : List Bool) (q : es ≡ edges (x .lines) now) (t : Bool) (p : t ≡ any (λ b. b) es) where
+  pub with-edge : (cs : List ℕ) → cs ≡ countersSampled modes (x .lines) now (x .counters)
+      → record { inputs = record { lines = now; counters = cs }; edges = es; edged = t } ≡ sampledOf bits number modes x
+  unfolding sampledOf
   with-edge cs c = rw (c, p, q, e)
 
   pub without-edge : t ≡ false → length now ≡ length (x .counters)
-      → record { inputs = record { lines = now; counters = x .counters }; edges = es; edged = t } ≡ sampledOf bits s x
+      → record { inputs = record { lines = now; counters = x .counters }; edges = es; edged = t } ≡ sampledOf bits number modes x
   unfolding linesSampled
   without-edge f l =
       let long : length (x .lines) ≡ length (x .counters) = sym (length-mapi _ (x .lines)) ∙ ap length (sym e) ∙ l in
       let none : any (λ b. b) (edges (x .lines) now) ≡ false = ap (any (λ b. b)) (sym q) ∙ sym p ∙ f in
-      with-edge (x .counters) (sym (no-edge (x .lines) now (s .modes) (x .counters) long none))
+      with-edge (x .counters) (sym (no-edge (x .lines) now modes (x .counters) long none))

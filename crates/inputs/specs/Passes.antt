@@ -6,9 +6,8 @@ use Rattle.lists.specs.Tests.{any}
 use Rattle.lists.specs.Mapi.{mapi}
 use Rattle.lists.specs.Numbers.{bitAt, bitsNumber}
 use Rattle.model.specs.declared.Inputs.{Inputs}
-use Rattle.model.specs.declared.Settings.{Settings}
 use Rattle.model.specs.declared.Line.{Line}
-use Rattle.model.specs.Samples.{edges, inputsSampled}
+use Rattle.model.specs.Samples.{linesSampled, edges, countersSampled}
 use Rattle.inputs.specs.declared.Sampled.{Sampled}
 
 -- some line that the mask picks has an edge
@@ -19,7 +18,9 @@ anyMasked mask edged = any (λ b. b) (mapi (λ i b. b && bitAt mask i) edged)
 unfoldable pub stableBits : List Line → ℕ
 stableBits xs = bitsNumber (map (λ (y : Line). y .stable) xs)
 
-unfoldable pub sampledOf : ℕ → Settings → Inputs → Sampled
-sampledOf bits s x =
-    let es = edges (x .lines) (inputsSampled bits s x .lines) in
-    record { inputs = inputsSampled bits s x; edges = es; edged = any (λ b. b) es }
+-- the inputs after a sample, by the sampling number and the modes
+unfoldable pub sampledOf : ℕ → ℕ → List ℕ → Inputs → Sampled
+sampledOf bits number modes x =
+    let now = linesSampled number bits (x .lines) in
+    let es = edges (x .lines) now in
+    record { inputs = record { lines = now; counters = countersSampled modes (x .lines) now (x .counters) }; edges = es; edged = any (λ b. b) es }

@@ -7,7 +7,6 @@ ghost use Rattle.model.specs.Samples.{lineSampled, linesSampled, isEdge, edges,
 ghost use Rattle.inputs.specs.Passes.{anyMasked, sampledOf, stableBits};
 use model::Inputs;
 use model::Line;
-use model::Settings;
 
 // The inputs after a sample, which of them had an edge, and whether any had.
 pub struct Sampled {
@@ -158,17 +157,16 @@ pub fn stable_bits(a: [Line; 16]) -> u16
 }
 
 // The inputs' part of a sample. Without an edge no counter moves, and the pass over them is left out.
-pub fn sample(s: Settings, x: Inputs, bits: u16) -> Sampled
-    ensures { λ r. ⌜ r ≡ sampledOf bits s x ⌝ }
+pub fn sample(sampling: u8, modes: [u8; 16], x: Inputs, bits: u16) -> Sampled
+    ensures { λ r. ⌜ r ≡ sampledOf bits sampling modes x ⌝ }
 {
     let was = x.lines;
-    let now = sample_lines(was, s.sampling, bits);
+    let now = sample_lines(was, sampling, bits);
     let edges = edges_of(was, now);
     let edged = any_edge(edges);
     let mut next = x;
     next.lines = now;
     if edged {
-        let modes = s.modes;
         let counters = x.counters;
         let counted = count_lines(counters, modes, was, now);
         next.counters = counted;

@@ -10,7 +10,7 @@ use Rattle.lists.specs.declared.Data.{Data}
 use Rattle.lists.specs.Data.{over, dataOf}
 use Rattle.lists.specs.Tests.{any}
 use Rattle.lists.specs.Numbers.{bytes}
-use Rattle.lists.proofs.DataLaws.{held-law}
+use Rattle.lists.proofs.DataLaws.{bytes-in}
 use Rattle.lists.proofs.NumberLaws.{length-bytes}
 use Rattle.model.proofs.Short.{length-spinelReply}
 use Rattle.model.specs.declared.Module.{Module}
@@ -42,10 +42,10 @@ due-noticed n es = go (any (λ b. b) es) refl
     go false e = rw (no-mask (n .mask) es e) (sym (and-false (isOn n)))
 
 -- the state after a sample, from its parts
-pub stepped-law : (bits : ℕ) (m : Module) (s : Sampled) (os : List Output) (due : Bool) → s ≡ sampledOf bits (m .settings) (m .inputs) → os ≡ map pulsed (m .outputs)
+pub stepped-law : (bits : ℕ) (m : Module) (s : Sampled) (os : List Output) (due : Bool) → s ≡ sampledOf bits (m .settings .sampling) (m .settings .modes) (m .inputs) → os ≡ map pulsed (m .outputs)
     → due ≡ (s .edged && noticed (m .settings .notice) (s .edges))
     → record { after = withOutputs (withInputs m (s .inputs)) os; noticed = due } ≡ steppedOf bits m
-unfolding steppedOf sampled sampledOf
+unfolding steppedOf sampled sampledOf inputsSampled
 stepped-law bits m s os due e q d = rw (d, e, q, due-noticed (m .settings .notice) (edges (m .inputs .lines) (inputsSampled bits (m .settings) (m .inputs) .lines)))
 
 -- the call's answer and buffer, by whether the notice is due
@@ -59,7 +59,7 @@ module _ (room bits : ℕ) (m : Module) (s : Stepped) (old : List ℕ) (enough :
       let l : List ℕ = spinelReply (m .spinel .address) (m .settings .notice .signature) 0x0D (bytes 2 (stableBits (inputsSampled bits (m .settings) (m .inputs) .lines))) in
       let long : length l ≡ 11 = length-spinelReply _ _ _ _ ∙ ap (_+ 9) (length-bytes 2 _) in
       let data′ : d ≡ dataOf l = q ∙ rw (p, e) in
-      let shown : take 11 (d .bytes) ≡ l = rw data′ (rw long at (held-law l)) in
+      let shown : take 11 (d .bytes) ≡ l = rw data′ (rw long at (bytes-in l)) in
       rw (le-ltb room 256 enough, due)
       (record { answer = rw (e, long); buffer = w ∙ ap (λ (bs : List ℕ). over bs old) shown })
 

@@ -3,7 +3,7 @@ ghost use mathlib.Core.Path.{_≡_};
 ghost use mathlib.Core.Bool.{_&&_};
 ghost use Prim.Native.Nat.{_≤_};
 ghost use lib.ListN.{length, take};
-ghost use Rattle.lists.specs.Data.{held, over};
+ghost use Rattle.lists.specs.Data.{bytesIn, over};
 ghost use Rattle.model.specs.State.{freshModule};
 ghost use Rattle.model.specs.Notice.{noticed};
 ghost use Rattle.model.specs.Temperature.{readingOf, taken};
@@ -12,11 +12,11 @@ ghost use Rattle.model.specs.Calls.{sampleCall, temperatureCall, spinelCall, mo
 ghost use Rattle.model.specs.Demand1.{RefusalsHold};
 ghost use Rattle.model.specs.Cycles.{CyclesConserved};
 ghost use Rattle.iomodule.specs.Parts.{noticeData, steppedOf};
-use answers::Handled;
 use lists::Data;
 use model::Answer;
 use model::Module;
 use model::Notice;
+use outcomes::Handled;
 
 // The state after a sample, and whether a notice is due.
 struct Stepped {
@@ -84,7 +84,8 @@ fn step(m: Module, bits: u16) -> Stepped
     let x = m.inputs;
     let os = m.outputs;
     let kept = m.settings;
-    let s = inputs::sample(kept, x, bits);
+    let modes = kept.modes;
+    let s = inputs::sample(kept.sampling, modes, x, bits);
     let stepped = s.inputs;
     let edges = s.edges;
     let pulsed = outputs::pulse_outputs(os);
@@ -183,7 +184,7 @@ pub fn temperature(m: Module, good: bool, tenths: i16) -> Answer
 fn reply_out(h: Handled, reply: &mut [u8]) -> Answer
     requires { ⌜ (h .reply .len ≤ 256) × (h .reply .len ≤ length (now reply)) ⌝ }
     ensures { λ r. ⌜ r ≡ record { refusal = h .refusal; len = h .reply .len; after = h .after } ⌝ }
-    ensures { λ _. ⌜ now (reply .exit) ≡ over (held (h .reply)) (now (reply .entry)) ⌝ }
+    ensures { λ _. ⌜ now (reply .exit) ≡ over (bytesIn (h .reply)) (now (reply .entry)) ⌝ }
 {
     let refusal = h.refusal;
     let after = h.after;
