@@ -7,7 +7,7 @@ use lib.Dec.{ltb, eqb}
 use borrow.Author.Tests.{lt-ltb, le-ltb, ltb-true, ltb-false, eqb-true, eqb-false}
 use Rattle.lists.proofs.Choices.{or-left, or-right}
 use Rattle.model.specs.declared.Group.{Group}
-use Rattle.model.specs.Registers.{thermostatGroup, outside, numberAt, noThermostat}
+use Rattle.model.specs.Registers.{thermostatGroup, outside, noThermostat}
 
 module _ (g : Group) (a n : ℕ) where
   -- it begins before the group
@@ -48,9 +48,3 @@ four a n h = go (eqb n 4) refl (or-right (outside thermostatGroup a n) _ h)
     go : (t : Bool) → eqb n 4 ≡ t → not (t && eqb ((a - 600) % 4) 0) ≡ false → n ≡ 4
     go true e q = eqb-true n 4 e
     go false e q = cc
-
--- in its group a register's number is small
-pub number-most : (g : Group) (a n : ℕ) → outside g a n ≡ false → numberAt g a ≤ g .count + 1
-number-most g a n h =
-    let i = inside g a n h in
-    omega (arith, i .begins, i .ends)

@@ -3,8 +3,8 @@ use Prim.Native.Nat.{ℕ, _≤_}
 use mathlib.Core.Path.{_≡_, _∙_}
 use mathlib.Core.List.{List}
 use lib.ListN.{length}
-use Rattle.lists.specs.Data.{held, over}
-use Rattle.lists.proofs.DataLaws.{held-law}
+use Rattle.lists.specs.Data.{bytesIn, over}
+use Rattle.lists.proofs.DataLaws.{bytes-in}
 use Rattle.model.specs.declared.Module.{Module}
 use Rattle.model.specs.declared.Answer.{Answer}
 use Rattle.model.specs.Refusals.{Out}
@@ -13,8 +13,8 @@ use Rattle.model.specs.Spinel.{spinelWire}
 use Rattle.model.specs.Modbus.{modbusWire}
 use Rattle.model.specs.Call.{call, spinel, modbus}
 use Rattle.model.specs.Calls.{step, Answered}
-use Rattle.answers.specs.Parts.{handledOf}
-use Rattle.answers.specs.declared.Handled.{Handled}
+use Rattle.outcomes.specs.Parts.{handledOf}
+use Rattle.outcomes.specs.declared.Handled.{Handled}
 use Rattle.model.proofs.Refused.{refusalsHold}
 
 -- every reply fits the lent buffer, by demand 1
@@ -31,5 +31,5 @@ module _ (o : Out) (h : Handled) (e : h ≡ handledOf o) where
   handled-short l = rw e l
 
   -- the answer and the buffer
-  pub handled-answered : (r : Answer) (old new : List ℕ) → r ≡ record { refusal = h .refusal; len = h .reply .len; after = h .after } → new ≡ over (held (h .reply)) old → Answered o r old new
-  handled-answered r old new a n = record { answer = a ∙ rw e; buffer = n ∙ rw (e, held-law) }
+  pub handled-answered : (r : Answer) (old new : List ℕ) → r ≡ record { refusal = h .refusal; len = h .reply .len; after = h .after } → new ≡ over (bytesIn (h .reply)) old → Answered o r old new
+  handled-answered r old new a n = record { answer = a ∙ rw e; buffer = n ∙ rw (e, bytes-in) }

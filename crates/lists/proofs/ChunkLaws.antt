@@ -49,11 +49,6 @@ pub piece : {A : Type 0} (k i : ℕ) (l : List A) (d : A) → i < length l → t
 piece k i l d h = rw (drop-cons l i d h, add-one)
 
 -- the same for entries
-module _ (w i : ℕ) (d : List ℕ) where
-  pub entries-cons : 0 < w → i + w ≤ length d → entries w (drop i d) ≡ entryOf (take w (drop i d)) ∷ entries w (drop (i + w) d)
-  unfolding entries
-  entries-cons p h = ap (map entryOf) (chunks-cons w i d p h)
-
-  pub entries-none : length d < i + w → 0 < w → entries w (drop i d) ≡ []
-  unfolding entries
-  entries-none h p = ap (map entryOf) (chunks-none w i d h p)
+pub entries-cons : (w i : ℕ) (d : List ℕ) → 0 < w → i + w ≤ length d → entries w (drop i d) ≡ entryOf (take w (drop i d)) ∷ entries w (drop (i + w) d)
+unfolding entries
+entries-cons w i d p h = ap (map entryOf) (chunks-cons w i d p h)

@@ -7,16 +7,18 @@ use native.Mathlib.Omega.{arith}
 use borrow.Author.Tests.{lt-ltb}
 use lib.ListN.{length, set, take, drop, getD, length-append, length-drop, drop-of-length-le, length-map}
 use lib.Seq.{set-append-seam, append-snoc, take-suc, set-at, getD-take, drop-cons, length-take-le, take-append-seam, getD-append-add, getD-drop}
-use Rattle.lists.specs.Data.{dataOf, pushed, extended, held, padded, over}
+use Rattle.lists.specs.Data.{dataOf, pushed, extended, bytesIn, filled, padded, over}
 use Rattle.lists.specs.declared.Data.{Data}
 
--- a store behind the last byte that counts
+-- a store behind the last element that counts
+pub filled-push : {A : Type 0} (n : ℕ) (d : A) (l : List A) (b : A) → length l < n → set (filled n d l) (length l) b ≡ filled n d (l ++ b ∷ [])
+filled-push n d l b h =
+    let more : n - length l ≡ suc (n - (length l + 1)) = omega arith in
+    rw (more, set-append-seam, length-append, append-snoc)
+
 pub padded-push : (l : List ℕ) (b : ℕ) → length l < 256 → set (padded l) (length l) b ≡ padded (l ++ b ∷ [])
 unfolding padded
-padded-push l b h =
-    let more : 256 - length l ≡ suc (255 - length l) = omega arith in
-    let less : 256 - (length l + 1) ≡ 255 - length l = omega arith in
-    rw (more, set-append-seam, length-append, less, append-snoc)
+padded-push l b h = filled-push 256 0 l b h
 
 pub push-law : (l : List ℕ) (b : ℕ) → length l < 256 → pushed (dataOf l) b ≡ dataOf (l ++ b ∷ [])
 unfolding pushed
@@ -31,9 +33,9 @@ extend-law (x ∷ xs) l h =
     ∙ extend-law xs (l ++ x ∷ []) (simp length-append (omega arith))
     ∙ ap dataOf (append-assoc l (x ∷ []) xs)
 
-pub held-law : (l : List ℕ) → held (dataOf l) ≡ l
+pub bytes-in : (l : List ℕ) → bytesIn (dataOf l) ≡ l
 unfolding padded
-held-law l = take-append-seam l _
+bytes-in l = take-append-seam l _
 
 -- an array in a field of a struct parameter has its elements
 pub field-length : (xs : List ℕ) {n : ℕ} → length (map (λ (v : ℕ). v) xs) ≡ n → length xs ≡ n

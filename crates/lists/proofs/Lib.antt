@@ -6,3 +6,5 @@ pub mod NumberLaws
 pub mod Bits
 pub mod DataLaws
 pub mod Somes
+pub mod Loops
+pub mod EntryLaws

@@ -6,9 +6,13 @@ use lib.ListN.{length, take, drop, set, replicate}
 use lib.Dec.{ltb}
 use Rattle.lists.specs.declared.Data.{Data}
 
+-- l, and d up to n elements
+abbrev pub filled : {A : Type 0} → ℕ → A → List A → List A
+filled n d l = l ++ replicate (n - length l) d
+
 -- the bytes l, and zeros to 256
 unfoldable pub padded : List ℕ → List ℕ
-padded l = l ++ replicate (256 - length l) 0
+padded l = filled 256 0 l
 
 abbrev pub dataOf : List ℕ → Data
 dataOf l = record { bytes = padded l; len = length l }
@@ -22,8 +26,8 @@ extended d [] = d
 extended d (b ∷ bs) = extended (pushed d b) bs
 
 -- the bytes that count
-abbrev pub held : Data → List ℕ
-held d = take (d .len) (d .bytes)
+abbrev pub bytesIn : Data → List ℕ
+bytesIn d = take (d .len) (d .bytes)
 
 -- a buffer after bs was written at its start: bytes beyond are as they were
 abbrev pub over : List ℕ → List ℕ → List ℕ

@@ -3,5 +3,5 @@ pub mod Mapi
 pub mod Walk
 pub mod Numbers
 pub mod Chunks
-pub mod Entries
 pub mod Data
+pub mod Entries

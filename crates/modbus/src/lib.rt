@@ -5,24 +5,22 @@ ghost use Prim.Native.Nat.{_≤_};
 ghost use lib.ListN.{length};
 ghost use Rattle.model.specs.declared.Line.{Line as LineOf};
 ghost use Rattle.model.specs.Samples.{inputStates};
-ghost use Rattle.model.specs.State.{withOutputs, withModbus, withCounters, withModes, withThermostats};
-ghost use Rattle.model.specs.Refusals.{judged, refuse, onPart, reading};
+ghost use Rattle.model.specs.Refusals.{judged, refuse, reading};
 ghost use Rattle.model.specs.Outputs.{outputStates};
 ghost use Rattle.model.specs.Temperature.{readingWords};
 ghost use Rattle.model.specs.Registers.{portGroup, counterGroup, modeGroup, outputGroup, readingGroup};
 ghost use Rattle.model.specs.Registers.{readWords, readBits, portWords, outputWord, readThermostat};
-ghost use Rattle.model.specs.Registers.{writePermission, writePort, writeCounters, writeDeductions, writeModes, writePulse, writeThermostat};
 ghost use Rattle.model.specs.Modbus.{startOf, secondOf, quantityWrong, words, registersRead, registersWritten};
 ghost use Rattle.model.specs.Modbus.{coilWritten, registerWritten, coilsWritten, severalWritten, modbusAsked, modbusWire};
 ghost use Rattle.model.specs.Wire.{frameActed, frameHandled};
-ghost use Rattle.octets.specs.Answers.{toldOf};
-ghost use Rattle.answers.specs.Parts.{servedOf, handledOf};
-use answers::Handled;
-use answers::Served;
+ghost use Rattle.encoding.specs.Answers.{toldOf};
+ghost use Rattle.outcomes.specs.Parts.{servedOf, handledOf};
+use encoding::Told;
 use model::Line;
 use model::Module;
 use model::Output;
-use octets::Told;
+use outcomes::Handled;
+use outcomes::Served;
 
 // Reading --------------------------------------------------------------------------------
 
@@ -30,48 +28,48 @@ use octets::Told;
 fn coils_told(os: [Output; 16], a: u16, n: u16) -> Told
     ensures { λ r. ⌜ r ≡ toldOf (readBits (outputStates os) a n) ⌝ }
 {
-    registers::read_bits(readouts::output_bits(os), a, n)
+    register_reads::read_bits(spinel_reads::output_bits(os), a, n)
 }
 
 // Stable states of inputs, n from place a on.
 fn inputs_told(lines: [Line; 16], a: u16, n: u16) -> Told
     ensures { λ r. ⌜ r ≡ toldOf (readBits (map (λ (y : LineOf). y .stable) lines) a n) ⌝ }
 {
-    registers::read_bits(inputs::stable_bits(lines), a, n)
+    register_reads::read_bits(inputs::stable_bits(lines), a, n)
 }
 
 // 01: coils.
 fn read_coils(m: Module, b: &[u8]) -> Served
     ensures { λ r. ⌜ r ≡ servedOf (judged m (reading m (refuse 8 (quantityWrong 2000 (now (b .entry))) (readBits (outputStates (m .outputs)) (startOf (now (b .entry))) (secondOf (now (b .entry))))))) ⌝ }
 {
-    if bodies::quantity_wrong(2000, b) {
-        return bodies::wrong_body(m);
+    if modbus_bodies::quantity_wrong(2000, b) {
+        return modbus_bodies::wrong_body(m);
     }
     let os = m.outputs;
-    let a = octets::word_from(b, 0);
-    let n = octets::word_from(b, 2);
-    answers::told(m, coils_told(os, a, n))
+    let a = encoding::word_from(b, 0);
+    let n = encoding::word_from(b, 2);
+    outcomes::told(m, coils_told(os, a, n))
 }
 
 // 02: inputs.
 fn read_inputs(m: Module, b: &[u8]) -> Served
     ensures { λ r. ⌜ r ≡ servedOf (judged m (reading m (refuse 8 (quantityWrong 2000 (now (b .entry))) (readBits (inputStates (m .inputs)) (startOf (now (b .entry))) (secondOf (now (b .entry))))))) ⌝ }
 {
-    if bodies::quantity_wrong(2000, b) {
-        return bodies::wrong_body(m);
+    if modbus_bodies::quantity_wrong(2000, b) {
+        return modbus_bodies::wrong_body(m);
     }
     let x = m.inputs;
     let lines = x.lines;
-    let a = octets::word_from(b, 0);
-    let n = octets::word_from(b, 2);
-    answers::told(m, inputs_told(lines, a, n))
+    let a = encoding::word_from(b, 0);
+    let n = encoding::word_from(b, 2);
+    outcomes::told(m, inputs_told(lines, a, n))
 }
 
 // 1 to 2
 fn read_port(m: Module, a: u16, n: u16) -> Served
     ensures { λ r. ⌜ r ≡ servedOf (judged m (reading m (readWords portGroup (portWords (m .modbus)) a n))) ⌝ }
 {
-    answers::told(m, registers::read_port(m.modbus, a, n))
+    outcomes::told(m, register_reads::read_port(m.modbus, a, n))
 }
 
 // 100 to 115
@@ -80,7 +78,7 @@ fn read_counters(m: Module, a: u16, n: u16) -> Served
 {
     let x = m.inputs;
     let cs = x.counters;
-    answers::told(m, registers::read_counters(cs, a, n))
+    outcomes::told(m, register_reads::read_counters(cs, a, n))
 }
 
 // 300 to 315
@@ -89,7 +87,7 @@ fn read_modes(m: Module, a: u16, n: u16) -> Served
 {
     let kept = m.settings;
     let ms = kept.modes;
-    answers::told(m, registers::read_modes(ms, a, n))
+    outcomes::told(m, register_reads::read_modes(ms, a, n))
 }
 
 // 500 to 515
@@ -97,7 +95,7 @@ fn read_outputs(m: Module, a: u16, n: u16) -> Served
     ensures { λ r. ⌜ r ≡ servedOf (judged m (reading m (readWords outputGroup (map outputWord (m .outputs)) a n))) ⌝ }
 {
     let os = m.outputs;
-    answers::told(m, registers::read_outputs(os, a, n))
+    outcomes::told(m, register_reads::read_outputs(os, a, n))
 }
 
 // 600 to 663
@@ -106,7 +104,7 @@ fn read_thermostat(m: Module, a: u16, n: u16) -> Served
 {
     let kept = m.settings;
     let hs = kept.thermostats;
-    answers::told(m, registers::read_thermostat(hs, a, n))
+    outcomes::told(m, register_reads::read_thermostat(hs, a, n))
 }
 
 // The register groups that 03 reads, by the first register.
@@ -119,7 +117,7 @@ fn read_group(m: Module, a: u16, n: u16) -> Served
         300..=315 => read_modes(m, a, n),
         500..=515 => read_outputs(m, a, n),
         600..=663 => read_thermostat(m, a, n),
-        _ => bodies::no_group(m),
+        _ => modbus_bodies::no_group(m),
     }
 }
 
@@ -127,11 +125,11 @@ fn read_group(m: Module, a: u16, n: u16) -> Served
 fn read_registers(m: Module, b: &[u8]) -> Served
     ensures { λ r. ⌜ r ≡ servedOf (judged m (reading m (refuse 8 (quantityWrong 125 (now (b .entry))) (registersRead (startOf (now (b .entry))) (secondOf (now (b .entry))) m)))) ⌝ }
 {
-    if bodies::quantity_wrong(125, b) {
-        return bodies::wrong_body(m);
+    if modbus_bodies::quantity_wrong(125, b) {
+        return modbus_bodies::wrong_body(m);
     }
-    let a = octets::word_from(b, 0);
-    let n = octets::word_from(b, 2);
+    let a = encoding::word_from(b, 0);
+    let n = encoding::word_from(b, 2);
     read_group(m, a, n)
 }
 
@@ -139,107 +137,30 @@ fn read_registers(m: Module, b: &[u8]) -> Served
 fn read_reading(m: Module, b: &[u8]) -> Served
     ensures { λ r. ⌜ r ≡ servedOf (judged m (reading m (refuse 8 (quantityWrong 125 (now (b .entry))) (readWords readingGroup (readingWords (m .reading)) (startOf (now (b .entry))) (secondOf (now (b .entry))))))) ⌝ }
 {
-    if bodies::quantity_wrong(125, b) {
-        return bodies::wrong_body(m);
+    if modbus_bodies::quantity_wrong(125, b) {
+        return modbus_bodies::wrong_body(m);
     }
     let reading = m.reading;
-    let a = octets::word_from(b, 0);
-    let n = octets::word_from(b, 2);
-    answers::told(m, registers::read_input(reading, a, n))
+    let a = encoding::word_from(b, 0);
+    let n = encoding::word_from(b, 2);
+    outcomes::told(m, register_reads::read_input(reading, a, n))
 }
 
 // Writing --------------------------------------------------------------------------------
-
-// 0
-fn write_permission(m: Module, single: bool, a: u16, d: &[u8]) -> Served
-    ensures { λ r. ⌜ r ≡ servedOf (judged m (onPart (withModbus m) (writePermission single a (words (now (d .entry))) (m .modbus)))) ⌝ }
-{
-    let s = writes::write_permission(single, a, d, m.modbus);
-    let modbus = s.port;
-    let mut next = m;
-    next.modbus = modbus;
-    answers::bare(s.refusal, next)
-}
-
-// 1 to 2
-fn write_port(m: Module, permitted: bool, a: u16, d: &[u8]) -> Served
-    ensures { λ r. ⌜ r ≡ servedOf (judged m (writePort permitted a (words (now (d .entry))) m)) ⌝ }
-{
-    let s = writes::write_port(permitted, a, d, m);
-    let after = s.after;
-    answers::bare(s.refusal, after)
-}
-
-// 100 to 115
-fn write_counters(m: Module, a: u16, d: &[u8]) -> Served
-    ensures { λ r. ⌜ r ≡ servedOf (judged m (onPart (withCounters m) (writeCounters a (words (now (d .entry))) (m .inputs .counters)))) ⌝ }
-{
-    let x = m.inputs;
-    let cs = x.counters;
-    let s = writes::write_counters(a, d, cs);
-    let after = s.counters;
-    answers::put_counters(m, s.refusal, after, octets::empty())
-}
-
-// 200 to 215
-fn write_deductions(m: Module, a: u16, d: &[u8]) -> Served
-    ensures { λ r. ⌜ r ≡ servedOf (judged m (onPart (withCounters m) (writeDeductions a (words (now (d .entry))) (m .inputs .counters)))) ⌝ }
-{
-    let x = m.inputs;
-    let cs = x.counters;
-    let s = writes::write_deductions(a, d, cs);
-    let after = s.counters;
-    answers::put_counters(m, s.refusal, after, octets::empty())
-}
-
-// 300 to 315
-fn write_modes(m: Module, a: u16, d: &[u8]) -> Served
-    ensures { λ r. ⌜ r ≡ servedOf (judged m (onPart (withModes m) (writeModes a (words (now (d .entry))) (m .settings .modes)))) ⌝ }
-{
-    let kept = m.settings;
-    let ms = kept.modes;
-    let s = writes::write_modes(a, d, ms);
-    let modes = s.modes;
-    answers::put_modes(m, s.refusal, modes)
-}
-
-// 500 to 515
-fn write_pulse(m: Module, a: u16, d: &[u8]) -> Served
-    ensures { λ r. ⌜ r ≡ servedOf (judged m (onPart (withOutputs m) (writePulse (m .reading) (m .settings .thermostats) a (words (now (d .entry))) (m .outputs)))) ⌝ }
-{
-    let kept = m.settings;
-    let hs = kept.thermostats;
-    let os = m.outputs;
-    let reading = m.reading;
-    let s = coils::write_pulse(reading, hs, a, d, os);
-    let outputs = s.outputs;
-    answers::put_outputs(m, s.refusal, outputs)
-}
-
-// 600 to 663
-fn write_thermostat(m: Module, a: u16, d: &[u8]) -> Served
-    ensures { λ r. ⌜ r ≡ servedOf (judged m (onPart (withThermostats m) (writeThermostat a (words (now (d .entry))) (m .settings .thermostats)))) ⌝ }
-{
-    let kept = m.settings;
-    let hs = kept.thermostats;
-    let s = writes::write_thermostat(a, d, hs);
-    let thermostats = s.thermostats;
-    answers::put_thermostats(m, s.refusal, thermostats)
-}
 
 // The register groups that 06 (a single value) and 10H write, by the first register; the values are lent, two bytes each.
 fn write_group(m: Module, permitted: bool, single: bool, a: u16, d: &[u8]) -> Served
     ensures { λ r. ⌜ r ≡ servedOf (judged m (registersWritten permitted single a (words (now (d .entry))) m)) ⌝ }
 {
     match a {
-        0 => write_permission(m, single, a, d),
-        1..=2 => write_port(m, permitted, a, d),
-        100..=115 => write_counters(m, a, d),
-        200..=215 => write_deductions(m, a, d),
-        300..=315 => write_modes(m, a, d),
-        500..=515 => write_pulse(m, a, d),
-        600..=663 => write_thermostat(m, a, d),
-        _ => bodies::no_group(m),
+        0 => port_requests::write_permission(m, single, a, d),
+        1..=2 => port_requests::write_port(m, permitted, a, d),
+        100..=115 => counter_requests::write_counters(m, a, d),
+        200..=215 => counter_requests::write_deductions(m, a, d),
+        300..=315 => counter_requests::write_modes(m, a, d),
+        500..=515 => output_requests::write_pulse(m, a, d),
+        600..=663 => thermostat_requests::write_thermostat(m, a, d),
+        _ => modbus_bodies::no_group(m),
     }
 }
 
@@ -248,17 +169,11 @@ fn write_coil(m: Module, b: &[u8]) -> Served
     ensures { λ r. ⌜ r ≡ servedOf (judged m (coilWritten (now (b .entry)) m)) ⌝ }
 {
     if b.len() != 4 {
-        return bodies::wrong_body(m);
+        return modbus_bodies::wrong_body(m);
     }
-    let kept = m.settings;
-    let hs = kept.thermostats;
-    let os = m.outputs;
-    let reading = m.reading;
-    let a = octets::word_from(b, 0);
-    let v = octets::word_from(b, 2);
-    let s = coils::write_coil(reading, hs, a, v, os);
-    let outputs = s.outputs;
-    bodies::echo(answers::put_outputs(m, s.refusal, outputs), b)
+    let a = encoding::word_from(b, 0);
+    let v = encoding::word_from(b, 2);
+    modbus_bodies::echo(output_requests::write_coil(m, a, v), b)
 }
 
 // 06: one register.
@@ -266,42 +181,36 @@ fn write_register(m: Module, permitted: bool, b: &[u8]) -> Served
     ensures { λ r. ⌜ r ≡ servedOf (judged m (registerWritten permitted (now (b .entry)) m)) ⌝ }
 {
     if b.len() != 4 {
-        return bodies::wrong_body(m);
+        return modbus_bodies::wrong_body(m);
     }
-    let a = octets::word_from(b, 0);
-    bodies::echo(write_group(m, permitted, true, a, &b[2..]), b)
+    let a = encoding::word_from(b, 0);
+    modbus_bodies::echo(write_group(m, permitted, true, a, &b[2..]), b)
 }
 
 // 0F: several coils.
 fn write_coils(m: Module, b: &[u8]) -> Served
     ensures { λ r. ⌜ r ≡ servedOf (judged m (coilsWritten (now (b .entry)) m)) ⌝ }
 {
-    let n = octets::word_from(b, 2);
+    let n = encoding::word_from(b, 2);
     let size = ((n as usize) + 7) / 8;
-    if bodies::count_wrong(1968, size, b) {
-        return bodies::wrong_body(m);
+    if modbus_bodies::count_wrong(1968, size, b) {
+        return modbus_bodies::wrong_body(m);
     }
-    let kept = m.settings;
-    let hs = kept.thermostats;
-    let os = m.outputs;
-    let reading = m.reading;
-    let a = octets::word_from(b, 0);
-    let s = coils::write_coils(reading, hs, a, n, &b[5..], os);
-    let outputs = s.outputs;
-    bodies::echo(answers::put_outputs(m, s.refusal, outputs), b)
+    let a = encoding::word_from(b, 0);
+    modbus_bodies::echo(output_requests::write_coils(m, a, n, &b[5..]), b)
 }
 
 // 10H: several registers.
 fn write_registers(m: Module, permitted: bool, b: &[u8]) -> Served
     ensures { λ r. ⌜ r ≡ servedOf (judged m (severalWritten permitted (now (b .entry)) m)) ⌝ }
 {
-    let n = octets::word_from(b, 2);
+    let n = encoding::word_from(b, 2);
     let size = 2 * (n as usize);
-    if bodies::count_wrong(123, size, b) {
-        return bodies::wrong_body(m);
+    if modbus_bodies::count_wrong(123, size, b) {
+        return modbus_bodies::wrong_body(m);
     }
-    let a = octets::word_from(b, 0);
-    bodies::echo(write_group(m, permitted, false, a, &b[5..]), b)
+    let a = encoding::word_from(b, 0);
+    modbus_bodies::echo(write_group(m, permitted, false, a, &b[5..]), b)
 }
 
 // A frame --------------------------------------------------------------------------------
@@ -319,7 +228,7 @@ fn serve(m: Module, permitted: bool, function: u8, b: &[u8]) -> Served
         0x06 => write_register(m, permitted, b),
         0x0F => write_coils(m, b),
         0x10 => write_registers(m, permitted, b),
-        _ => answers::bare(7, m),
+        _ => outcomes::bare(7, m),
     }
 }
 
@@ -332,8 +241,8 @@ fn act(m: Module, frame: &[u8]) -> Handled
     let to = frame[0];
     let function = frame[1];
     let b = frames::modbus_body(frame);
-    let s = serve(bodies::use_up(m), port.permitted, function, b);
-    bodies::answer(port.address, to, function, s)
+    let s = serve(modbus_bodies::use_up(m), port.permitted, function, b);
+    modbus_bodies::answer(port.address, to, function, s)
 }
 
 // Any frame: checks 2 to 6, then the function.
@@ -343,7 +252,7 @@ pub fn handle(m: Module, frame: &[u8]) -> Handled
     let port = m.modbus;
     let refusal = frames::modbus_refusal(port.address, frame);
     if refusal != 0 {
-        return answers::unheard(refusal, m);
+        return outcomes::unheard(refusal, m);
     }
     act(m, frame)
 }

@@ -7,7 +7,8 @@ use lib.Dec.{leb, eqb}
 use Rattle.lists.specs.Tests.{within, all}
 use Rattle.lists.specs.Walk.{allPass}
 use Rattle.lists.specs.Numbers.{bytes}
-use Rattle.lists.specs.Entries.{Entry, entries}
+use Rattle.lists.specs.declared.Entry.{Entry}
+use Rattle.lists.specs.Entries.{entries}
 use Rattle.model.specs.declared.Line.{Line}
 use Rattle.model.specs.declared.Port.{Port}
 use Rattle.model.specs.declared.Module.{Module}

@@ -30,8 +30,11 @@ abbrev pub greatest : ℕ
 greatest = 12
 
 -- 7 to 12: their order is said here once more, so that the claim fixes it
+abbrev pub claimedOrder : List ℕ
+claimedOrder = 7 ∷ 8 ∷ 9 ∷ 10 ∷ 11 ∷ 12 ∷ []
+
 unfoldable pub requestChecks : {P : Type 0} → Request P → List Check
-requestChecks q = map (λ n. check n (q .holds n)) (7 ∷ 8 ∷ 9 ∷ 10 ∷ 11 ∷ 12 ∷ [])
+requestChecks q = map (λ n. check n (q .holds n)) claimedOrder
 
 -- 2 to 6; 3 is Spinel's alone
 unfoldable pub frameChecks : Wire → ℕ → List ℕ → List Check

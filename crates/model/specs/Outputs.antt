@@ -7,7 +7,8 @@ use lib.Dec.{ltb, eqb}
 use Rattle.lists.specs.Tests.{within, all}
 use Rattle.lists.specs.Numbers.{bytes, bitsNumber}
 use Rattle.lists.specs.Chunks.{chunks}
-use Rattle.lists.specs.Entries.{Entry, entry}
+use Rattle.lists.specs.declared.Entry.{Entry}
+use Rattle.lists.specs.Entries.{entry}
 use Rattle.model.specs.declared.Output.{Output}
 use Rattle.model.specs.declared.HalfSeconds.{HalfSeconds}
 use Rattle.model.specs.declared.Preset.{Preset}

@@ -7,7 +7,8 @@ use lib.Dec.{leb, ltb, eqb}
 use Rattle.lists.specs.Tests.{within, all}
 use Rattle.lists.specs.Numbers.{bytes, bitsNumber}
 use Rattle.lists.specs.Chunks.{chunksOf}
-use Rattle.lists.specs.Entries.{Entry, entry, numbered}
+use Rattle.lists.specs.declared.Entry.{Entry}
+use Rattle.lists.specs.Entries.{entry, numbered}
 use Rattle.model.specs.declared.Group.{Group}
 use Rattle.model.specs.declared.Output.{Output}
 use Rattle.model.specs.declared.Thermostat.{Thermostat}

@@ -240,7 +240,7 @@ fn tenths_of(p: u32) -> Parsed
     if 65536 <= p {
         return wrong_of(3);
     }
-    good_of(octets::signed_of(p as u16))
+    good_of(encoding::signed_of(p as u16))
 }
 
 // Whether a word is `fault`.

@@ -4,11 +4,11 @@ use mathlib.Core.Bool.{cond}
 use mathlib.Core.List.{[]}
 use lib.Dec.{eqb}
 use Rattle.lists.specs.Data.{dataOf}
-use Rattle.frames.specs.Replies.{spinelReplied}
+use Rattle.replies.specs.Replies.{spinelReplied}
 use Rattle.model.specs.Frames.{spinelBroadcast}
 use Rattle.model.specs.Refusals.{ackOf}
-use Rattle.answers.specs.declared.Served.{Served}
-use Rattle.answers.specs.declared.Handled.{Handled}
+use Rattle.outcomes.specs.declared.Served.{Served}
+use Rattle.outcomes.specs.declared.Handled.{Handled}
 
 -- nothing goes back to FF; any other reply bears the module's own address, whatever the request's
 abbrev pub answeredTo : ℕ → ℕ → ℕ → Served → Handled

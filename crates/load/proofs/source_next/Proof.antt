@@ -1,5 +1,4 @@
 -- `load::source_next` meets its contract. Assumes nothing.
-use borrow.Author.Needs.{needs}
 use Rattle.load.specs.Play.{sourceNext}
 use Rattle.load.proofs.source_next.Statement.{statement}
 use Rattle.load.proofs.source_next.Tie as tie

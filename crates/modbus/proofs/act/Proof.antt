@@ -2,13 +2,13 @@
 use borrow.Author.Needs.{needs}
 use denote.Ref.{now}
 use mathlib.Core.Path.{_∙_}
-use Rattle.model.specs.Frames.{modbusTo, functionOf, modbusBody}
+use Rattle.model.specs.Frames.{functionOf, modbusBody}
 use Rattle.model.specs.Wire.{usedUp, frameActed}
 use Rattle.model.specs.Modbus.{modbusWire}
 use Rattle.model.proofs.Short.{modbus-short}
 use Rattle.modbus.proofs.act.Statement.{statement}
 use Rattle.modbus.proofs.act.Tie as tie
-use Rattle.bodies.proofs.Echoes.{answered-law}
+use Rattle.modbus_bodies.proofs.Echoes.{answered-law}
 
 returns : tie.Need-returns
 unfolding frameActed

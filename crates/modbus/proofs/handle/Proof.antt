@@ -4,8 +4,8 @@ use mathlib.Core.Path.{sym, ap, _∙_}
 use Rattle.model.specs.Wire.{frameActed, frameHandled}
 use Rattle.model.specs.Modbus.{modbusWire}
 use Rattle.frames.proofs.Passing.{modbus-passes}
-use Rattle.answers.specs.Parts.{handledOf}
-use Rattle.answers.proofs.Laws.{refused-law}
+use Rattle.outcomes.specs.Parts.{handledOf}
+use Rattle.outcomes.proofs.Laws.{refused-law}
 use Rattle.modbus.proofs.handle.Statement.{statement}
 use Rattle.modbus.proofs.handle.Tie as tie
 

@@ -3,12 +3,12 @@ use denote.Ref.{now}
 use mathlib.Core.Path.{refl, sym, _∙_}
 use Rattle.model.specs.Modbus.{startOf, secondOf, quantityWrong}
 use Rattle.model.specs.Refusals.{reading}
-use Rattle.answers.proofs.Laws.{told-law}
+use Rattle.outcomes.proofs.Laws.{told-law}
 use Rattle.model.specs.Registers.{readBits}
 use Rattle.model.specs.Outputs.{outputStates}
 use Rattle.modbus.proofs.read_coils.Statement.{statement}
 use Rattle.modbus.proofs.read_coils.Tie as tie
-use Rattle.bodies.proofs.Laws.{refused-8, passed-8}
+use Rattle.modbus_bodies.proofs.Laws.{refused-8, passed-8}
 
 returns : tie.Need-returns
 unfolding readBits

@@ -1,5 +1,5 @@
 -- `modbus::read_counters` meets its contract. Assumes nothing.
-use Rattle.answers.proofs.Laws.{told-law}
+use Rattle.outcomes.proofs.Laws.{told-law}
 use Rattle.model.specs.Registers.{readWords}
 use Rattle.modbus.proofs.read_counters.Statement.{statement}
 use Rattle.modbus.proofs.read_counters.Tie as tie

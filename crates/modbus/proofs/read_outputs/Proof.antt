@@ -1,5 +1,5 @@
 -- `modbus::read_outputs` meets its contract. Assumes nothing.
-use Rattle.answers.proofs.Laws.{told-law}
+use Rattle.outcomes.proofs.Laws.{told-law}
 use Rattle.model.specs.Registers.{readWords}
 use Rattle.modbus.proofs.read_outputs.Statement.{statement}
 use Rattle.modbus.proofs.read_outputs.Tie as tie

@@ -1,6 +1,6 @@
 -- `modbus::read_port` meets its contract. Assumes nothing.
 use Rattle.model.specs.Registers.{readWords}
-use Rattle.answers.proofs.Laws.{told-law}
+use Rattle.outcomes.proofs.Laws.{told-law}
 use Rattle.modbus.proofs.read_port.Statement.{statement}
 use Rattle.modbus.proofs.read_port.Tie as tie
 

@@ -4,11 +4,11 @@ use denote.Ref.{now}
 use Rattle.model.specs.Registers.{readingGroup, readWords}
 use Rattle.model.specs.Modbus.{startOf, secondOf, quantityWrong}
 use Rattle.model.specs.Refusals.{reading}
-use Rattle.answers.proofs.Laws.{told-law}
+use Rattle.outcomes.proofs.Laws.{told-law}
 use Rattle.model.specs.Temperature.{readingWords}
 use Rattle.modbus.proofs.read_reading.Statement.{statement}
 use Rattle.modbus.proofs.read_reading.Tie as tie
-use Rattle.bodies.proofs.Laws.{refused-8, passed-8}
+use Rattle.modbus_bodies.proofs.Laws.{refused-8, passed-8}
 
 returns : tie.Need-returns
 unfolding readWords

@@ -5,7 +5,7 @@ use Rattle.model.specs.Refusals.{reading}
 use Rattle.model.specs.Modbus.{startOf, secondOf, quantityWrong, registersRead}
 use Rattle.modbus.proofs.read_registers.Statement.{statement}
 use Rattle.modbus.proofs.read_registers.Tie as tie
-use Rattle.bodies.proofs.Laws.{refused-8, passed-8}
+use Rattle.modbus_bodies.proofs.Laws.{refused-8, passed-8}
 use Rattle.modbus.proofs.Ranges.{groups-listed}
 
 returns : tie.Need-returns

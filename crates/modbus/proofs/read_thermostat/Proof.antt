@@ -1,5 +1,5 @@
 -- `modbus::read_thermostat` meets its contract. Assumes nothing.
-use Rattle.answers.proofs.Laws.{told-law}
+use Rattle.outcomes.proofs.Laws.{told-law}
 use Rattle.model.specs.Registers.{readThermostat}
 use Rattle.modbus.proofs.read_thermostat.Statement.{statement}
 use Rattle.modbus.proofs.read_thermostat.Tie as tie

@@ -5,7 +5,6 @@ use mathlib.Core.Path.{refl, sym, _∙_}
 use Prim.Native.Nat.{_+_, _/_, _≤_}
 use lib.ListN.{length, take, drop}
 use native.Mathlib.Omega.{arith}
-use Rattle.answers.proofs.Laws.{part-law}
 use Rattle.model.specs.Refusals.{onPart}
 use Rattle.model.specs.Outputs.{actOn}
 use Rattle.model.specs.State.{withOutputs}
@@ -13,9 +12,9 @@ use Rattle.model.specs.Registers.{writeCoils}
 use Rattle.model.specs.Modbus.{startOf, secondOf, countWrong, bitsFrom, answering, coilsWritten}
 use Rattle.modbus.proofs.write_coils.Statement.{statement}
 use Rattle.modbus.proofs.write_coils.Tie as tie
-use Rattle.bodies.proofs.Laws.{refused-8}
-use Rattle.bodies.specs.Parts.{headOf}
-use Rattle.bodies.proofs.Echoes.{head-law, written-law}
+use Rattle.modbus_bodies.proofs.Laws.{refused-8}
+use Rattle.modbus_bodies.specs.Parts.{headOf}
+use Rattle.modbus_bodies.proofs.Echoes.{head-law, written-law}
 use Rattle.lists.proofs.ChunkLaws.{rest-whole}
 use Rattle.modbus.proofs.Bodies.{counted}
 
@@ -37,18 +36,17 @@ returns c =
 returns-2 : tie.Need-returns-2
 unfolding coilsWritten writeCoils actOn
 returns-2 c =
-    let put = c .before in
-    let s = put .before .before in
+    let s = c .before in
     let first = s .before .before in
-    let e = first .before .before .before .before in
+    let e = first .before in
     let k = e .before in
     let n = k .before in
     let a = n .before .before .args in
     let b = now (a .b) in
     let q = writeCoils (a .m .reading) (a .m .settings .thermostats) (startOf b) (bitsFrom 0 (secondOf b) (drop 5 b)) (a .m .outputs) in
     c .echo .ensures
-    ∙ written-law (a .m) (onPart (withOutputs (a .m)) q) (headOf b) (take 4 b) (countWrong 1968 ((secondOf b + 7) / 8) b) (put .put-outputs .result) (head-law b (omega (arith, long e)))
-    (rw (put .put-outputs .ensures, s .write-coils .ensures, first .word-from2 .ensures, n .word-from .ensures, rest-whole 5 b) (part-law (withOutputs (a .m)) (a .m .outputs) q refl))
+    ∙ written-law (a .m) (onPart (withOutputs (a .m)) q) (headOf b) (take 4 b) (countWrong 1968 ((secondOf b + 7) / 8) b) (s .write-coils .result) (head-law b (omega (arith, long e)))
+    (rw (s .write-coils .ensures, first .word-from2 .ensures, n .word-from .ensures, rest-whole 5 b))
     (sym (rw (n .word-from .ensures) at (k .count-wrong .ensures)) ∙ e .if1 .left)
 
 pub write-coils-spec : {M : Type 1} → statement M
@@ -62,10 +60,9 @@ write-coils-spec =
     (λ c κs. tt)
     returns
     (λ c κs. tt)
-    (λ c. long (c .before .before .before .before))
-    (λ c. omega (arith, long (c .before .before .before .before)))
+    (λ c. long (c .before))
+    (λ c. omega (arith, long (c .before)))
     (λ c. search needs)
-    (λ c κs. tt)
     (λ c κs. tt)
     (λ c κs. tt)
     returns-2)

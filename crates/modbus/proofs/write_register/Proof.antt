@@ -13,9 +13,9 @@ use borrow.Author.Tests.{eq-eqb, ne-eqb}
 use Rattle.model.specs.Modbus.{startOf, secondOf, answering, registersWritten, registerWritten}
 use Rattle.modbus.proofs.write_register.Statement.{statement}
 use Rattle.modbus.proofs.write_register.Tie as tie
-use Rattle.bodies.proofs.Laws.{refused-8}
-use Rattle.bodies.specs.Parts.{headOf}
-use Rattle.bodies.proofs.Echoes.{head-law, written-law}
+use Rattle.modbus_bodies.proofs.Laws.{refused-8}
+use Rattle.modbus_bodies.specs.Parts.{headOf}
+use Rattle.modbus_bodies.proofs.Echoes.{head-law, written-law}
 use Rattle.lists.proofs.ChunkLaws.{rest-whole}
 use Rattle.modbus.proofs.Bodies.{one-word}
 use Rattle.modbus.proofs.Ranges.{writes-listed}

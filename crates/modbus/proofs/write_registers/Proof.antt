@@ -9,9 +9,9 @@ use native.Mathlib.Omega.{arith}
 use Rattle.model.specs.Modbus.{startOf, secondOf, countWrong, words, answering, registersWritten, severalWritten}
 use Rattle.modbus.proofs.write_registers.Statement.{statement}
 use Rattle.modbus.proofs.write_registers.Tie as tie
-use Rattle.bodies.proofs.Laws.{refused-8}
-use Rattle.bodies.specs.Parts.{headOf}
-use Rattle.bodies.proofs.Echoes.{head-law, written-law}
+use Rattle.modbus_bodies.proofs.Laws.{refused-8}
+use Rattle.modbus_bodies.specs.Parts.{headOf}
+use Rattle.modbus_bodies.proofs.Echoes.{head-law, written-law}
 use Rattle.lists.proofs.ChunkLaws.{rest-whole}
 use Rattle.modbus.proofs.Bodies.{counted}
 use Rattle.modbus.proofs.Ranges.{writes-listed}

@@ -9,7 +9,7 @@ use mathlib.Core.Path.{_≡_}
 use Prim.Native.Nat.{_≤_}
 use borrow.Author.Tests.{ne-eqb}
 use Rattle.lists.proofs.DataLaws.{field-length}
-use Rattle.octets.proofs.Limit.{take-limited}
+use Rattle.encoding.proofs.Limit.{take-limited}
 use Rattle.model.specs.Calls.{step, run}
 use Rattle.player.specs.Scripts.{frameCall, lineCalls}
 use borrow.Author.Needs.{needs}

@@ -4,8 +4,8 @@ use denote.Ref.{now}
 use Rattle.model.specs.Wire.{frameActed, frameHandled}
 use Rattle.model.specs.Spinel.{spinelWire}
 use Rattle.frames.proofs.Passing.{spinel-passes}
-use Rattle.answers.specs.Parts.{handledOf}
-use Rattle.answers.proofs.Laws.{refused-law}
+use Rattle.outcomes.specs.Parts.{handledOf}
+use Rattle.outcomes.proofs.Laws.{refused-law}
 use Rattle.spinel.proofs.handle.Statement.{statement}
 use Rattle.spinel.proofs.handle.Tie as tie
 

@@ -1,0 +1,7 @@
+-- `encoding::float_words` meets its contract, from that of `float_bits`. Assumes nothing.
+use borrow.Author.Needs.{needs}
+use Rattle.encoding.proofs.float_words.Statement.{statement}
+use Rattle.encoding.proofs.float_words.Tie as tie
+
+pub float-words-spec : {M : Type 1} → statement M
+float-words-spec = tie.close (tie.spec (λ c κs. tt) (λ c. search needs) (λ c. search needs) (λ c. rw (c .float-bits .ensures)))

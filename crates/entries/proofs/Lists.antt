@@ -1,0 +1,111 @@
+-- Laws of a request's list and of a loop that builds a reply of it. Assumes nothing.
+use Prim.Native.Nat.{ℕ, zero, suc, _+_, _<_, _≤_}
+use native.Mathlib.Omega.{arith}
+use native.Mathlib.Nat.{not-suc-le-zero, le-of-suc-le-suc}
+use mathlib.Core.Path.{_≡_, refl, sym, _∙_}
+use mathlib.Core.Bool.{Bool, true, false, cond, not, and-true}
+use mathlib.Core.List.{List, [], _∷_, _++_, flatMap}
+use lib.Dec.{leb, ltb}
+use lib.ListN.{length, getD, drop, drop-of-length-le}
+use borrow.Author.Tests.{le-leb}
+use Rattle.lists.proofs.ChunkLaws.{rest-first}
+use Rattle.lists.specs.Tests.{within, all}
+use Rattle.lists.proofs.Choices.{below}
+use Rattle.lists.specs.Data.{dataOf, extended, pushed}
+use Rattle.lists.specs.declared.Data.{Data}
+use Rattle.lists.proofs.DataLaws.{extend-law}
+use Rattle.model.specs.Refusals.{judged, refuse, telling}
+use Rattle.model.specs.Counters.{isNumber, itemsOf, everyNumber, listed, listRead}
+use Rattle.model.proofs.Short.{list-short}
+use Rattle.encoding.specs.declared.Told.{Told}
+use Rattle.encoding.specs.Answers.{toldOf}
+use Rattle.entries.specs.Items.{itemsIn, asksAll, listRefusal}
+
+-- the test on the length is the one on the list
+pub items-length : (w : ℕ) (d : List ℕ) → itemsOf w d ≡ itemsIn w (length d)
+unfolding itemsOf itemsIn
+items-length w d = refl
+
+-- a byte is from 1 to 255 unless it is 0
+pub byte-some : (b : ℕ) → b < 256 → not (within 1 255 b) ≡ ltb b 1
+unfolding within
+byte-some b h = rw (le-leb b 255 (omega arith), and-true (leb 1 b)) (sym (below b 1))
+
+-- the numbers that a list names
+pub listed-all : (d : List ℕ) → asksAll d ≡ true → listed d ≡ everyNumber
+unfolding asksAll listed
+listed-all d h = rw h
+
+pub listed-own : (d : List ℕ) → asksAll d ≡ false → listed d ≡ d
+unfolding asksAll listed
+listed-own d h = rw h
+
+-- n, n + 1, .., k of them
+unfoldable upFrom : ℕ → ℕ → List ℕ
+upFrom n zero = []
+upFrom n (suc k) = n ∷ upFrom (n + 1) k
+
+getD-upFrom : (n k i : ℕ) → i < k → getD (upFrom n k) i 0 ≡ n + i
+unfolding upFrom
+getD-upFrom n zero i h = absurd (not-suc-le-zero h)
+getD-upFrom n (suc k) zero h = omega arith
+getD-upFrom n (suc k) (suc i) h = getD-upFrom (n + 1) k i (le-of-suc-le-suc h) ∙ omega arith
+
+pub number-place : (i : ℕ) → i < 16 → getD everyNumber i 0 ≡ i + 1
+unfolding upFrom
+number-place i h = getD-upFrom 1 16 i h ∙ omega arith
+
+-- bytes after bytes, in two parts
+pub extended-append : (xs ys : List ℕ) (b : Data) → extended b (xs ++ ys) ≡ extended (extended b xs) ys
+unfolding extended
+extended-append [] ys b = refl
+extended-append (x ∷ xs) ys b = extended-append xs ys (pushed b x)
+
+-- A loop that puts `show n` after the reply for each n of ns in turn: what is still to come is left.
+module _ (show : ℕ → List ℕ) (ns : List ℕ) (i : ℕ) (b : Data) where
+  -- one turn
+  pub shown-turn : i < length ns → extended (extended b (show (getD ns i 0))) (flatMap show (drop (i + 1) ns)) ≡ extended b (flatMap show (drop i ns))
+  unfolding flatMap
+  shown-turn h = rw (rest-first ns i h) (sym (extended-append (show (getD ns i 0)) (flatMap show (drop (i + 1) ns)) b))
+
+  -- its end
+  pub shown-end : length ns ≤ i → extended b (flatMap show (drop i ns)) ≡ b
+  unfolding flatMap extended
+  shown-end h = rw (drop-of-length-le ns {i = i} h)
+
+-- Of a list that is allowed, pieces of at most 16 bytes each fit into a reply, so the loop from an empty one builds its data.
+pub shown-data : (show : ℕ → List ℕ) (d : List ℕ)
+    → not (itemsOf 1 d) ≡ false
+    → ((n : ℕ) → length (show n) ≤ 16)
+    → extended (dataOf []) (flatMap show (listed d)) ≡ dataOf (flatMap show (listed d))
+unfolding listRead
+shown-data show d e s = extend-law (flatMap show (listed d)) [] (omega (arith, list-short 16 256 show s (omega arith) d .bound e))
+
+-- A list read: judged by `list_refusal`, and shown by such a loop.
+module _ (show : ℕ → List ℕ) (d : List ℕ) where
+  pub read-refused : (listRefusal d ≡ 0 → ⊥) → record { refusal = listRefusal d; reply = dataOf [] } ≡ toldOf (listRead show d)
+  unfolding listRefusal listRead judged
+  read-refused h = go (itemsOf 1 d) (all isNumber (listed d)) h
+    where
+      go : (a b : Bool)
+          → (_≡_ {A = ℕ} (cond (not a) 8 (cond (not b) 11 0)) 0 → ⊥)
+          → _≡_ {A = Told} (record { refusal = cond (not a) 8 (cond (not b) 11 0); reply = dataOf [] })
+          (toldOf (refuse 8 (not a) (refuse 11 (not b) (telling (flatMap show (listed d))))))
+      go true true n = absurd (n refl)
+      go true false n = refl
+      go false b n = refl
+
+  pub read-told : listRefusal d ≡ 0
+      → ((n : ℕ) → length (show n) ≤ 16)
+      → record { refusal = 0; reply = extended (dataOf []) (flatMap show (listed d)) } ≡ toldOf (listRead show d)
+  unfolding listRefusal listRead judged
+  read-told h s = go (itemsOf 1 d) (all isNumber (listed d)) h (λ e. shown-data show d e s)
+    where
+      go : (a b : Bool)
+          → _≡_ {A = ℕ} (cond (not a) 8 (cond (not b) 11 0)) 0
+          → (not a ≡ false → extended (dataOf []) (flatMap show (listed d)) ≡ dataOf (flatMap show (listed d)))
+          → _≡_ {A = Told} (record { refusal = 0; reply = extended (dataOf []) (flatMap show (listed d)) })
+          (toldOf (refuse 8 (not a) (refuse 11 (not b) (telling (flatMap show (listed d))))))
+      go true true n e = rw (e refl)
+      go true false n e = absurd (omega arith)
+      go false b n e = absurd (omega arith)

@@ -1,0 +1,360 @@
+// A request's list: how many items it has, numbers of inputs and outputs, the numbers that a list read names, and its entries decoded.
+ghost use mathlib.Core.Path.{_≡_};
+ghost use mathlib.Core.List.{[], _∷_, map};
+ghost use Prim.Native.Nat.{_-_, _/_, _%_, _^_, _<_};
+ghost use lib.ListN.{length, getD, take};
+ghost use Rattle.lists.specs.Tests.{all};
+ghost use Rattle.lists.specs.Entries.{entry, entries, numbered, entriesOf, entriesIn, entryAdded};
+ghost use Rattle.model.specs.Counters.{isNumber, everyNumber, listed};
+ghost use Rattle.model.specs.Outputs.{setByte};
+ghost use Rattle.model.specs.Modbus.{words, bitsFrom};
+ghost use Rattle.model.specs.Registers.{bitGroup, numberAt};
+ghost use Rattle.entries.specs.Items.{itemsIn, asksAll, listRefusal};
+ghost use Rattle.entries.specs.Layouts.{decoded};
+use lists::Entries;
+use lists::Entry;
+use model::Group;
+
+// How bytes stand for entries: a number and its value of one byte or of two, values of two bytes for the registers of a group from one on,
+// a set byte each, or bits for so many coils from one on.
+enum Layout {
+    Pairs,
+    Triples,
+    Registers(Group, u16),
+    Sets,
+    Coils(u16, u16),
+}
+
+// Whether n bytes are 1 to 12 items of w bytes each, and nothing over.
+pub fn items_of(w: usize, n: usize) -> bool
+    ensures { λ r. ⌜ r ≡ itemsIn w n ⌝ }
+{
+    if w == 0 {
+        return false;
+    }
+    (n % w == 0) & ((1 <= n / w) & (n / w <= 12))
+}
+
+// Whether n is the number of an input or an output, 1 to 16.
+pub fn is_number(n: u8) -> bool
+    ensures { λ r. ⌜ r ≡ isNumber n ⌝ }
+{
+    (1 <= n) & (n <= 16)
+}
+
+// Whether every byte is a number.
+pub fn all_numbers(d: &[u8]) -> bool
+    ensures { λ r. ⌜ r ≡ all isNumber (now (d .entry)) ⌝ }
+{
+    let mut i = 0;
+    while i < d.len() {
+        if !is_number(d[i]) {
+            return false;
+        }
+        i += 1;
+    }
+    true
+}
+
+// Whether the list is a single 00, which stands for all.
+pub fn is_all(d: &[u8]) -> bool
+    ensures { λ r. ⌜ r ≡ asksAll (now (d .entry)) ⌝ }
+{
+    if d.len() == 1 {
+        return d[0] == 0;
+    }
+    false
+}
+
+// The number at a place of all sixteen, or 0 past the end.
+pub fn number_at(i: usize) -> u8
+    ensures { λ r. ⌜ r ≡ getD everyNumber i 0 ⌝ }
+{
+    if i < 16 { (i as u8) + 1 } else { 0 }
+}
+
+// How many numbers a list read names.
+pub fn listed_count(d: &[u8]) -> usize
+    ensures { λ r. ⌜ r ≡ length (listed (now (d .entry))) ⌝ }
+{
+    if is_all(d) {
+        return 16;
+    }
+    d.len()
+}
+
+// The number at a place of those, or 0 past the end.
+pub fn listed_at(d: &[u8], i: usize) -> u8
+    ensures { λ r. ⌜ r ≡ getD (listed (now (d .entry))) i 0 ⌝ }
+{
+    if is_all(d) {
+        return number_at(i);
+    }
+    encoding::at(d, i)
+}
+
+// Whether a list read names numbers only.
+pub fn all_listed(d: &[u8]) -> bool
+    ensures { λ r. ⌜ r ≡ all isNumber (listed (now (d .entry))) ⌝ }
+{
+    if is_all(d) {
+        return true;
+    }
+    all_numbers(d)
+}
+
+// Why a list read is refused, or 0.
+pub fn list_refusal(d: &[u8]) -> u8
+    ensures { λ r. ⌜ r ≡ listRefusal (now (d .entry)) ⌝ }
+{
+    if !items_of(1, d.len()) {
+        return 8;
+    }
+    if !all_listed(d) {
+        return 11;
+    }
+    0
+}
+
+// Entries ---------------------------------------------------------------------------------
+
+// A byte as a number.
+fn wide(b: u8) -> usize
+    ensures { λ r. ⌜ r ≡ b ⌝ }
+{
+    b as usize
+}
+
+// A byte as a value.
+fn value(b: u8) -> u16
+    ensures { λ r. ⌜ r ≡ b ⌝ }
+{
+    b as u16
+}
+
+// How many entries there are.
+fn decoded_count(l: Layout, d: &[u8]) -> usize
+    ensures { λ r. ⌜ r ≡ length (decoded l (now (d .entry))) ⌝ }
+{
+    match l {
+        Layout::Pairs => d.len() / 2,
+        Layout::Triples => d.len() / 3,
+        Layout::Registers(_, _) => d.len() / 2,
+        Layout::Sets => d.len(),
+        Layout::Coils(_, n) => n as usize,
+    }
+}
+
+// The entry of two bytes at a place: a number and a value.
+fn pair_at(d: &[u8], j: usize) -> Entry
+    requires { ⌜ j < length (now d) / 2 ⌝ }
+    ensures { λ r. ⌜ r ≡ getD (entries 2 (now (d .entry))) j (entry 0 0) ⌝ }
+{
+    let number = wide(encoding::at(d, 2 * j));
+    let value = value(encoding::at(d, 2 * j + 1));
+    Entry { number, value }
+}
+
+// The entry of three bytes at a place: a number and a value of two.
+fn triple_at(d: &[u8], j: usize) -> Entry
+    requires { ⌜ j < length (now d) / 3 ⌝ }
+    ensures { λ r. ⌜ r ≡ getD (entries 3 (now (d .entry))) j (entry 0 0) ⌝ }
+{
+    let number = wide(encoding::at(d, 3 * j));
+    let value = encoding::word_from(d, 3 * j + 1);
+    Entry { number, value }
+}
+
+// The value of two bytes at a place, for the group's register so many after a.
+fn register_at(g: Group, a: u16, d: &[u8], j: usize) -> Entry
+    requires { ⌜ j < length (now d) / 2 ⌝ }
+    ensures { λ r. ⌜ r ≡ getD (numbered (numberAt g a) (words (now (d .entry)))) j (entry 0 0) ⌝ }
+{
+    let number = groups::number(g, a) + j;
+    let value = encoding::word_from(d, 2 * j);
+    Entry { number, value }
+}
+
+// The set byte at a place: the top bit for on, below it the output's number.
+fn set_at(d: &[u8], j: usize) -> Entry
+    ensures { λ r. ⌜ r ≡ getD (map setByte (now (d .entry))) j (entry 0 0) ⌝ }
+{
+    let b = encoding::at(d, j);
+    let number = wide(b % 128);
+    let value = value(b / 128);
+    Entry { number, value }
+}
+
+// Bit j of the bytes, each byte's lowest first; 0 past the end.
+fn bit_of(d: &[u8], j: usize) -> u16
+    ensures { λ r. ⌜ r ≡ getD (now (d .entry)) (j / 8) 0 / 2 ^ (j % 8) % 2 ⌝ }
+{
+    let b = encoding::at(d, j / 8);
+    value((b >> (j % 8)) % 2)
+}
+
+// The bit at a place of n, for the coil so many after a.
+fn coil_at(a: u16, n: u16, d: &[u8], j: usize) -> Entry
+    requires { ⌜ j < n ⌝ }
+    ensures { λ r. ⌜ r ≡ getD (numbered (numberAt bitGroup a) (bitsFrom 0 n (now (d .entry)))) j (entry 0 0) ⌝ }
+{
+    let number = groups::number(groups::BITS, a) + j;
+    let value = bit_of(d, j);
+    Entry { number, value }
+}
+
+// The entry at a place.
+fn decoded_at(l: Layout, d: &[u8], j: usize) -> Entry
+    requires { ⌜ j < length (decoded l (now d)) ⌝ }
+    ensures { λ r. ⌜ r ≡ getD (decoded l (now (d .entry))) j (entry 0 0) ⌝ }
+{
+    match l {
+        Layout::Pairs => pair_at(d, j),
+        Layout::Triples => triple_at(d, j),
+        Layout::Registers(g, a) => register_at(g, a, d, j),
+        Layout::Sets => set_at(d, j),
+        Layout::Coils(a, n) => coil_at(a, n, d, j),
+    }
+}
+
+// No entries.
+fn none() -> Entries
+    ensures { λ r. ⌜ r ≡ entriesOf [] ⌝ }
+{
+    Entries {
+        items: [Entry {
+            number: 0,
+            value: 0,
+        }; 16],
+        len: 0,
+    }
+}
+
+// One entry more, while there is room.
+fn add(es: Entries, e: Entry) -> Entries
+    ensures { λ r. ⌜ r ≡ entryAdded es e ⌝ }
+{
+    let at = es.len;
+    let mut next = es;
+    if at < 16 {
+        next.items[at] = e;
+        next.len = at + 1;
+    }
+    next
+}
+
+// The entries in turn; those after the sixteenth are passed by.
+fn decode(l: Layout, d: &[u8]) -> Entries
+    ensures { λ r. ⌜ r ≡ entriesOf (take 16 (decoded l (now (d .entry)))) ⌝ }
+{
+    let n = decoded_count(l, d);
+    let mut es = none();
+    let mut j = 0;
+    while j < n {
+        es = add(es, decoded_at(l, d, j));
+        j += 1;
+    }
+    es
+}
+
+// Numbers, each with a value of one byte.
+pub fn pairs(d: &[u8]) -> Entries
+    ensures { λ r. ⌜ r ≡ entriesOf (take 16 (entries 2 (now (d .entry)))) ⌝ }
+{
+    decode(Layout::Pairs, d)
+}
+
+// Numbers, each with a value of two bytes.
+pub fn triples(d: &[u8]) -> Entries
+    ensures { λ r. ⌜ r ≡ entriesOf (take 16 (entries 3 (now (d .entry)))) ⌝ }
+{
+    decode(Layout::Triples, d)
+}
+
+// Values of two bytes for the inputs or outputs that the group's registers from a on are for.
+pub fn registers(g: Group, a: u16, d: &[u8]) -> Entries
+    ensures { λ r. ⌜ r ≡ entriesOf (take 16 (numbered (numberAt g a) (words (now (d .entry))))) ⌝ }
+{
+    decode(Layout::Registers(g, a), d)
+}
+
+// The value of two bytes at a place, or 0 past the end.
+pub fn value_at(d: &[u8], j: usize) -> u16
+    ensures { λ r. ⌜ r ≡ getD (words (now (d .entry))) j 0 ⌝ }
+{
+    if j < d.len() / 2 {
+        return encoding::word_from(d, 2 * j);
+    }
+    0
+}
+
+// Set bytes: numbers of outputs, each with 1 for on and 0 for off.
+pub fn set_bytes(d: &[u8]) -> Entries
+    ensures { λ r. ⌜ r ≡ entriesOf (take 16 (map setByte (now (d .entry)))) ⌝ }
+{
+    decode(Layout::Sets, d)
+}
+
+// Bits for the outputs that n coils from a on are for.
+pub fn coils(a: u16, n: u16, d: &[u8]) -> Entries
+    ensures { λ r. ⌜ r ≡ entriesOf (take 16 (numbered (numberAt bitGroup a) (bitsFrom 0 n (now (d .entry))))) ⌝ }
+{
+    decode(Layout::Coils(a, n), d)
+}
+
+// One value for one number.
+pub fn single(number: usize, value: u16) -> Entries
+    ensures { λ r. ⌜ r ≡ entriesOf (entry number value ∷ []) ⌝ }
+{
+    add(none(), Entry { number, value })
+}
+
+// How many of the first n items there are.
+fn items_within(items: [Entry; 16], n: usize) -> usize
+    ensures { λ r. ⌜ r ≡ length (take n items) ⌝ }
+{
+    if n < 16 { n } else { 16 }
+}
+
+// The item at a place of the first n, an empty one past their end.
+fn item_at(items: [Entry; 16], n: usize, i: usize) -> Entry
+    ensures { λ r. ⌜ r ≡ getD (take n items) i (entry 0 0) ⌝ }
+{
+    if i < items_within(items, n) {
+        return items[i];
+    }
+    Entry {
+        number: 0,
+        value: 0,
+    }
+}
+
+// How many entries count.
+pub fn count(es: Entries) -> usize
+    ensures { λ r. ⌜ r ≡ length (entriesIn es) ⌝ }
+{
+    let items = es.items;
+    items_within(items, es.len)
+}
+
+// The entry at a place, an empty one past the end.
+pub fn entry_at(es: Entries, i: usize) -> Entry
+    ensures { λ r. ⌜ r ≡ getD (entriesIn es) i (entry 0 0) ⌝ }
+{
+    let items = es.items;
+    item_at(items, es.len, i)
+}
+
+// Whether an entry has the number of an input or an output.
+pub fn is_numbered(e: Entry) -> bool
+    ensures { λ r. ⌜ r ≡ isNumber (e .number) ⌝ }
+{
+    (1 <= e.number) & (e.number <= 16)
+}
+
+// The place of an entry's number: one less, and 0 for 0.
+pub fn place(e: Entry) -> usize
+    ensures { λ r. ⌜ r ≡ e .number - 1 ⌝ }
+{
+    if e.number < 1 { 0 } else { e.number - 1 }
+}

@@ -1,0 +1,58 @@
+-- The echo of a write, and the reply. Assumes nothing.
+use Prim.Native.Nat.{ℕ, _≤_}
+use native.Mathlib.Omega.{arith}
+use mathlib.Core.Path.{_≡_, refl, ap, _∙_}
+use mathlib.Core.Bool.{Bool, false, cond}
+use mathlib.Core.List.{List, [], _∷_}
+use lib.ListN.{length, take}
+use lib.Dec.{eqb}
+use borrow.Author.Tests.{ne-eqb}
+use Rattle.lists.specs.Data.{dataOf, pushed}
+use Rattle.lists.specs.declared.Data.{Data}
+use Rattle.lists.proofs.DataLaws.{push-law}
+use Rattle.lists.proofs.ChunkLaws.{piece}
+use Rattle.model.specs.declared.Module.{Module}
+use Rattle.model.specs.Frames.{modbusTo, functionOf, modbusBroadcast, modbusReply, exceptionReply}
+use Rattle.model.specs.Refusals.{Request, refuse, Done, judged, exceptionOf}
+use Rattle.model.specs.Wire.{frameAnswered}
+use Rattle.model.specs.Modbus.{answering, modbusWire}
+use Rattle.model.proofs.Judged.{judged-both}
+use Rattle.replies.proofs.Framing.{modbus-law}
+use Rattle.outcomes.specs.declared.Served.{Served}
+use Rattle.outcomes.specs.Parts.{servedOf, handledOf}
+use Rattle.outcomes.proofs.Laws.{both}
+use Rattle.modbus_bodies.specs.Parts.{headOf, echoed, answeredTo}
+use Rattle.modbus_bodies.proofs.Laws.{passed-8}
+
+-- only an accepted request's data changes
+pub echo-law : (m : Module) (q : Request Module) (b : List ℕ) → echoed b (servedOf (judged m q)) ≡ servedOf (judged m (answering b q))
+echo-law m q b =
+    judged-both (λ o w. echoed b (servedOf o) ≡ servedOf w) m m q (answering b q) (λ _. refl) (λ n l. rw (ne-eqb n 0 (λ z. omega arith))) (λ _. refl)
+
+-- a write whose body passes: l is what comes back of it
+pub written-law : (m : Module) (q : Request Module) (l b : List ℕ) (wrong : Bool) (s : Served)
+    → l ≡ b → s ≡ servedOf (judged m q) → wrong ≡ false → echoed l s ≡ servedOf (judged m (refuse 8 wrong (answering b q)))
+written-law m q l b wrong s f e h = ap (λ (x : List ℕ). echoed x s) f ∙ ap (echoed b) e ∙ echo-law m q b ∙ passed-8 m (answering b q) wrong h
+
+-- four bytes, one after another
+pub four-pushed : (a b c d : ℕ) → pushed (pushed (pushed (pushed (dataOf []) a) b) c) d ≡ dataOf (a ∷ b ∷ c ∷ d ∷ [])
+four-pushed a b c d =
+    rw (push-law [] a (omega arith), push-law (a ∷ []) b (omega arith), push-law (a ∷ b ∷ []) c (omega arith), push-law (a ∷ b ∷ c ∷ []) d (omega arith))
+
+-- a body that has them
+pub head-law : (b : List ℕ) → 4 ≤ length b → headOf b ≡ take 4 b
+head-law b h = rw (piece 3 0 b 0 (omega arith), piece 2 1 b 0 (omega arith), piece 1 2 b 0 (omega arith), piece 0 3 b 0 (omega arith))
+
+-- the reply around the data
+pub answered-law : (own : ℕ) (f : List ℕ) (s : Served) (o : Done Module) → s ≡ servedOf o → length (o .reply) ≤ 252
+    → answeredTo own (modbusTo f) (functionOf f) s ≡ handledOf (frameAnswered modbusWire own f o)
+unfolding frameAnswered
+answered-law own f s o e h =
+    let quiet = eqb (modbusTo f) modbusBroadcast in
+    let good = eqb (o .refusal) 0 in
+    let error = exceptionReply own (functionOf f) (exceptionOf (o .refusal)) in
+    ap (answeredTo own (modbusTo f) (functionOf f)) e
+    ∙ ap (λ (x : Data). record { refusal = o .refusal; after = o .part; reply = x })
+    (ap (λ (x : Data). cond quiet (dataOf []) (cond good x (dataOf error))) (modbus-law own (functionOf f) (o .reply) h)
+    ∙ ap (cond quiet (dataOf [])) (both good (modbusReply own (functionOf f) (o .reply)) error)
+    ∙ both quiet [] _)

@@ -1,0 +1,63 @@
+-- Conditions that are judged one after another. Assumes nothing.
+use Prim.Native.Nat.{ℕ, _%_, _<_}
+use native.Mathlib.Omega.{arith}
+use native.Mathlib.Nat.{mod-eq-of-lt}
+use mathlib.Core.Path.{_≡_, refl, sym, ap, _∙_}
+use mathlib.Core.Bool.{Bool, true, false, cond, not, _||_, and-true}
+use mathlib.Core.List.{List, [], _∷_, map}
+use lib.Dec.{leb}
+use lib.ListN.{take}
+use borrow.Author.Tests.{le-leb, not-false}
+use Rattle.lists.specs.Tests.{within, all}
+use Rattle.lists.specs.declared.Entry.{Entry}
+use Rattle.lists.specs.Entries.{entriesOf, entriesIn}
+use Rattle.lists.proofs.Choices.{and-left, within-high, all-first, all-rest}
+use Rattle.model.specs.declared.Preset.{Preset}
+use Rattle.model.specs.declared.Reading.{Reading}
+use Rattle.model.specs.declared.Thermostat.{Thermostat}
+use Rattle.model.specs.Refusals.{Request, refuse, refusalOf}
+use Rattle.model.specs.Counters.{isNumber, itemsOf}
+use Rattle.model.specs.Temperature.{freeAt}
+use Rattle.model.specs.Outputs.{setByte, presetReady}
+use Rattle.entries.proofs.Entries.{sets-whole}
+
+-- a byte is at most 255
+pub byte-within : (t : ℕ) → t < 256 → leb 1 t ≡ within 1 255 t
+unfolding within
+byte-within t h = rw (le-leb t 255 (omega arith)) (sym (and-true (leb 1 t)))
+
+-- two conditions of one number
+either : (a b : Bool) (n r : ℕ) → cond b n (cond a n r) ≡ cond (a || b) n r
+either true true n r = refl
+either true false n r = refl
+either false true n r = refl
+either false false n r = refl
+
+-- a request refused by 11 for one reason more
+pub also-11 : {P : Type 0} (q : Request P) (b : Bool) → q .holds 7 ≡ false → q .holds 8 ≡ false → q .holds 9 ≡ false → q .holds 10 ≡ false
+    → cond b 11 (refusalOf q) ≡ refusalOf (refuse 11 b q)
+unfolding refusalOf
+also-11 q b h7 h8 h9 h10 = rw (h7, h8, h9, h10) (either (q .holds 11) b 11 (cond (q .holds 12) 12 0))
+
+-- what is judged later may take for granted that an earlier condition does not hold
+later : (b : Bool) (n x y : ℕ) → (b ≡ false → x ≡ y) → cond b n x ≡ cond b n y
+later true n x y e = refl
+later false n x y e = e refl
+
+-- presets that are ready: a number that fits is its set byte's
+ready-number : (ps : List Preset) (n : ℕ) → presetReady ps n ≡ true → n % 128 ≡ n
+unfolding presetReady
+ready-number ps n h = mod-eq-of-lt (omega (arith, within-high 1 16 n (and-left (isNumber n) _ h)))
+
+module _ (ps : List Preset) (r : Reading) (hs : List Thermostat) where
+  held-alike : (d : List ℕ) → all (presetReady ps) d ≡ true → all (λ (e : Entry). freeAt r hs (e .number)) (map setByte d) ≡ all (freeAt r hs) d
+  unfolding all setByte
+  held-alike [] h = refl
+  held-alike (n ∷ d) h = rw (ready-number ps n (all-first (presetReady ps) n d h), held-alike d (all-rest (presetReady ps) n d h))
+
+  -- 25H by its set bytes
+  pub started-law : (d : List ℕ)
+      → _≡_ {A = ℕ} (cond (not (itemsOf 1 d)) 8 (cond (not (all (presetReady ps) d)) 11 (cond (not (all (λ (e : Entry). freeAt r hs (e .number)) (entriesIn (entriesOf (take 16 (map setByte d)))))) 12 0)))
+      (cond (not (itemsOf 1 d)) 8 (cond (not (all (presetReady ps) d)) 11 (cond (not (all (freeAt r hs) d)) 12 0)))
+  started-law d =
+      later (not (itemsOf 1 d)) 8 _ _ (λ few. later (not (all (presetReady ps) d)) 11 _ _ (λ ready. ap (λ (t : Bool). cond (not t) 12 0) (ap (all _) (sets-whole d (not-false _ few)) ∙ held-alike d (not-false _ ready))))

@@ -1,0 +1,75 @@
+-- Words of a group: a part of a list, and where a group begins. Assumes nothing.
+use Prim.Native.Nat.{ℕ, zero, suc, _+_, _-_, _*_, _<_, _≤_}
+use native.Mathlib.Omega.{arith}
+use native.Mathlib.Nat.{le-of-eq}
+use mathlib.Core.Path.{_≡_, refl, sym, ap, _∙_}
+use mathlib.Core.Bool.{Bool, true, false}
+use mathlib.Core.List.{List, [], _∷_, _++_, map, flatMap}
+use lib.ListN.{length, getD, take, drop, length-drop, List·getD-map}
+use lib.Seq.{getD-take, getD-drop, length-take-le}
+use Rattle.lists.specs.Data.{dataOf, extended, pushed}
+use Rattle.lists.specs.declared.Data.{Data}
+use Rattle.lists.specs.Numbers.{bytes}
+use Rattle.lists.proofs.DataLaws.{push-law, extend-law}
+use Rattle.lists.proofs.NumberLaws.{length-bytes}
+use Rattle.model.specs.declared.Group.{Group}
+use Rattle.model.specs.declared.Output.{Output}
+use Rattle.model.specs.declared.Reading.{Reading}
+use Rattle.model.specs.declared.Reading.the-variants.{Valid, Fault}
+use Rattle.model.specs.State.{freshOutput}
+use Rattle.model.specs.Outputs.{remaining}
+use Rattle.model.specs.Refusals.{judged, refuse, telling}
+use Rattle.model.specs.Temperature.{readingWords}
+use Rattle.model.specs.Registers.{outside, outputWord, readWords}
+use Rattle.model.proofs.Short.{flat-most}
+use Rattle.encoding.specs.declared.Told.{Told}
+use Rattle.encoding.specs.Answers.{toldOf}
+use Rattle.groups.proofs.Inside.{inside}
+
+-- n of some words from place k on
+module _ (ws : List ℕ) (k n : ℕ) (fits : k + n ≤ length ws) where
+  pub part-length : length (take n (drop k ws)) ≡ n
+  part-length = length-take-le n (drop k ws) (simp length-drop (omega arith))
+
+  pub part-word : (i : ℕ) → i < n → getD ws (k + i) 0 ≡ getD (take n (drop k ws)) i 0
+  part-word i h = sym (getD-take n (drop k ws) i 0 h ∙ getD-drop k ws i 0)
+
+-- a byte count and at most sixteen words fit a reply
+pub words-data : (b : ℕ) (ws : List ℕ) → length ws ≤ 16 → extended (pushed (dataOf []) b) (flatMap (bytes 2) ws) ≡ dataOf (b ∷ flatMap (bytes 2) ws)
+words-data b ws h =
+    ap (λ (d : Data). extended d (flatMap (bytes 2) ws)) (push-law [] b (omega arith))
+    ∙ extend-law (flatMap (bytes 2) ws) (b ∷ []) (omega (arith, flat-most 2 (bytes 2) (λ v. le-of-eq (length-bytes 2 v)) 16 ws h))
+
+-- an output's word is the word of its output
+pub word-of : (os : List Output) (i : ℕ) → getD (map outputWord os) i 0 ≡ outputWord (getD os i freshOutput)
+unfolding outputWord remaining
+word-of os i = List·getD-map outputWord os i freshOutput
+
+-- a part that ends before the second list begins
+part-first : (xs ys : List ℕ) (k n : ℕ) → k + n ≤ length xs → take n (drop k (xs ++ ys)) ≡ take n (drop k xs)
+part-first [] ys zero zero h = refl
+part-first [] ys zero (suc n) h = absurd (let z : ⊥ = omega arith in z)
+part-first [] ys (suc k) n h = absurd (let z : ⊥ = omega arith in z)
+part-first (x ∷ xs) ys zero zero h = refl
+part-first (x ∷ xs) ys zero (suc n) h = ap (x ∷_) (part-first xs ys zero n (omega arith))
+part-first (x ∷ xs) ys (suc k) n h = part-first xs ys k n (omega arith)
+
+-- a group whose words are the first of two lists shows none of the second
+pub first-told : (g : Group) (xs ys : List ℕ) (a n : ℕ) → g .count ≤ length xs → toldOf (readWords g (xs ++ ys) a n) ≡ toldOf (readWords g xs a n)
+unfolding readWords judged
+first-told g xs ys a n h = go (outside g a n) refl
+  where
+    answer : Bool → List ℕ → Told
+    answer t part = toldOf (refuse 9 t (telling (2 * n ∷ flatMap (bytes 2) part)))
+
+    go : (t : Bool) → outside g a n ≡ t → answer t (take n (drop (a - g .first) (xs ++ ys))) ≡ answer t (take n (drop (a - g .first) xs))
+    go true e = refl
+    go false e =
+        let i = inside g a n e in
+        ap (answer false) (part-first xs ys (a - g .first) n (omega (arith, i .begins, i .ends)))
+
+-- a reading has four words
+pub reading-four : (r : Reading) → length (readingWords r) ≡ 4
+unfolding readingWords
+reading-four (Valid t x) = refl
+reading-four Fault = refl

@@ -1,0 +1,61 @@
+// What requests on either port come to for the thermostats, and what they read of the temperature: decoded, judged, applied.
+ghost use mathlib.Core.Path.{_≡_};
+ghost use Rattle.model.specs.State.{withThermostats};
+ghost use Rattle.model.specs.Refusals.{onPart, reading, judged};
+ghost use Rattle.model.specs.Temperature.{readTemperature, setThermostats, readThermostats};
+ghost use Rattle.model.specs.Registers.{writeThermostat};
+ghost use Rattle.model.specs.Modbus.{words};
+ghost use Rattle.outcomes.specs.Parts.{servedOf};
+use model::Module;
+use outcomes::Served;
+
+// 1AH
+pub fn set_thermostats(m: Module, d: &[u8]) -> Served
+    ensures { λ r. ⌜ r ≡ servedOf (judged m (onPart (withThermostats m) (setThermostats (now (d .entry)) (m .settings .thermostats)))) ⌝ }
+{
+    let kept = m.settings;
+    let hs = kept.thermostats;
+    let es = thermostat_effects::from_groups(d);
+    let wrong = !entries::items_of(8, d.len());
+    let refusal = encoding::refused_if(wrong, 8, thermostat_effects::thermostats_refusal(es));
+    outcomes::settle(
+        refusal,
+        m,
+        outcomes::with_thermostats(m, thermostat_effects::set_thermostats(hs, es)),
+    )
+}
+
+// 1BH
+pub fn read_thermostats(m: Module, d: &[u8]) -> Served
+    ensures { λ r. ⌜ r ≡ servedOf (judged m (reading m (readThermostats (now (d .entry)) (m .settings .thermostats)))) ⌝ }
+{
+    let kept = m.settings;
+    let hs = kept.thermostats;
+    outcomes::told(m, spinel_reads::read_thermostats(d, hs))
+}
+
+// 51H
+pub fn read_temperature(m: Module, d: &[u8]) -> Served
+    ensures { λ r. ⌜ r ≡ servedOf (judged m (reading m (readTemperature (now (d .entry)) (m .reading)))) ⌝ }
+{
+    let reading = m.reading;
+    outcomes::told(m, thermostat_effects::read_temperature(d, reading))
+}
+
+// Registers 600 to 663: flags that are no byte are refused as a setpoint that does not fit is.
+pub fn write_thermostat(m: Module, a: u16, d: &[u8]) -> Served
+    ensures { λ r. ⌜ r ≡ servedOf (judged m (onPart (withThermostats m) (writeThermostat a (words (now (d .entry))) (m .settings .thermostats)))) ⌝ }
+{
+    let kept = m.settings;
+    let hs = kept.thermostats;
+    let es = thermostat_effects::from_registers(a, d);
+    let wrong = groups::no_thermostat(a, d.len() / 2);
+    let wide = 255 < encoding::word_from(d, 0);
+    let misfit = encoding::refused_if(wide, 11, thermostat_effects::thermostats_refusal(es));
+    let refusal = encoding::refused_if(wrong, 9, misfit);
+    outcomes::settle(
+        refusal,
+        m,
+        outcomes::with_thermostats(m, thermostat_effects::set_thermostats(hs, es)),
+    )
+}
