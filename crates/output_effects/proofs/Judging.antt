@@ -33,11 +33,10 @@ either true false n r = refl
 either false true n r = refl
 either false false n r = refl
 
--- a request refused by 11 for one reason more
-pub also-11 : {P : Type 0} (q : Request P) (b : Bool) → q .holds 7 ≡ false → q .holds 8 ≡ false → q .holds 9 ≡ false → q .holds 10 ≡ false
+-- a request refused by 11 for one reason more, where no condition that is looked at before it can hold; r is what those after it give
+pub also-11 : {P : Type 0} (q : Request P) (b : Bool) (r : ℕ) → refusalOf q ≡ cond (q .holds 11) 11 r → refusalOf (refuse 11 b q) ≡ cond (q .holds 11 || b) 11 r
     → cond b 11 (refusalOf q) ≡ refusalOf (refuse 11 b q)
-unfolding refusalOf
-also-11 q b h7 h8 h9 h10 = rw (h7, h8, h9, h10) (either (q .holds 11) b 11 (cond (q .holds 12) 12 0))
+also-11 q b r without with = rw (without, with) (either (q .holds 11) b 11 r)
 
 -- what is judged later may take for granted that an earlier condition does not hold
 later : (b : Bool) (n x y : ℕ) → (b ≡ false → x ≡ y) → cond b n x ≡ cond b n y

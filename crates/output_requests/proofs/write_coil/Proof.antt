@@ -32,7 +32,7 @@ returns c =
     let es = entry (numberAt bitGroup (a .a)) (v / 0xFF00) ∷ [] in
     let wrong = not (eqb v 0xFF00 || eqb v 0x0000) in
     rw (c .settle .ensures, w .with-outputs .ensures, w .before .set .ensures, w .before .before .refused-if2 .ensures, f .refused-if .ensures, j .switch-refusal .ensures setOutput os, i .is-outside .ensures, t .single .ensures, t .before .number .ensures, entries-in, ← not-or (eqb v 0xFF00) (eqb v 0x0000))
-    (settled-law (a .m) (onPart (withOutputs (a .m)) (refuse 11 wrong (writeCoils r hs (a .a) (v / 0xFF00 ∷ []) os))) _ _ _ (ap (cond (outside bitGroup (a .a) 1) 9) (also-11 (actOn setOutput r hs es os) wrong refl refl refl refl)) (λ _. refl) (λ _. refl))
+    (settled-law (a .m) (onPart (withOutputs (a .m)) (refuse 11 wrong (writeCoils r hs (a .a) (v / 0xFF00 ∷ []) os))) _ _ _ (ap (cond (outside bitGroup (a .a) 1) 9) (also-11 (actOn setOutput r hs es os) wrong _ refl refl)) (λ _. refl) (λ _. refl))
 
 pub write-coil-spec : {M : Type 1} → statement M
 write-coil-spec = tie.close (tie.spec (λ c κs. tt) (λ c κs. tt) (λ c κs. tt) (λ c κs. tt) (λ c κs. tt) (λ c κs. tt) (λ c κs. tt) (λ c κs. tt) (λ c κs. tt) returns)

@@ -57,7 +57,7 @@ returns c =
     let wrong = outside outputGroup (a .a) n || not (eqb n 1) in
     rw (c .settle .ensures, w .with-outputs .ensures, w .before .pulse .ensures, w .before .before .refused-if2 .ensures, f .refused-if .ensures, j .pulse-refusal .ensures (a .m .outputs), i .is-outside .ensures, t .single .ensures, t .before .number .ensures, b .low-byte .ensures, b .before .word-from .ensures, entries-in, ← not-or (eqb (wordAt d 0 / 256) 0xFF) (eqb (wordAt d 0 / 256) 0x00), ← words-length d)
     (decoded-law (a .m) (λ (vs : List ℕ). onPart (withOutputs (a .m)) (refuse 9 wrong (refuse 11 (noState (getD vs 0 0)) (pulseBy (a .m) (a .a) (getD vs 0 0))))) 8 (λ vs. cond (noState (getD vs 0 0)) 11 (refusalOf (pulseBy (a .m) (a .a) (getD vs 0 0)))) wrong
-    (λ vs. ap (cond wrong 9) (sym (also-11 (pulseBy (a .m) (a .a) (getD vs 0 0)) (noState (getD vs 0 0)) refl refl refl refl))) (wordAt d 0 ∷ []) (words d)
+    (λ vs. ap (cond wrong 9) (sym (also-11 (pulseBy (a .m) (a .a) (getD vs 0 0)) (noState (getD vs 0 0)) _ refl refl))) (wordAt d 0 ∷ []) (words d)
     (λ h. one-value d (eqb-true n 1 (not-false (eqb n 1) (or-right (outside outputGroup (a .a) n) (not (eqb n 1)) h)))) _ (λ _. refl) refl)
 
 pub write-pulse-spec : {M : Type 1} → statement M
