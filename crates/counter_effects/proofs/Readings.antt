@@ -13,7 +13,7 @@ use Rattle.lists.proofs.DataLaws.{extend-law}
 use Rattle.model.specs.Samples.{counterBits, counterBytes}
 use Rattle.model.specs.Counters.{isNumber, everyNumber, itemsOf, zeroes, numberIn, parameters, readOne, valuesRead, readCounters}
 use Rattle.model.proofs.Short.{counters-short}
-use Rattle.entries.proofs.Lists.{extended-append}
+use Rattle.number_lists.proofs.Lists.{extended-append}
 use Rattle.counter_effects.specs.declared.Collected.{Collected}
 use Rattle.counter_effects.specs.Answers.{readable, asksEvery, everyOf, readStep, readRest}
 

@@ -30,7 +30,7 @@ pub struct Collected {
 fn is_readable(p: u8) -> bool
     ensures { λ r. ⌜ r ≡ readable p ⌝ }
 {
-    entries::is_number(p % 64)
+    number_lists::is_number(p % 64)
 }
 
 // Whether every parameter has one.
@@ -136,7 +136,7 @@ pub fn read_refusal(d: &[u8]) -> u8
 {
     let named = asks_every(d) | all_readable(d);
     encoding::refused_if(
-        !entries::items_of(1, d.len()),
+        !number_lists::items_of(1, d.len()),
         8,
         encoding::refused_if(!named, 11, 0),
     )

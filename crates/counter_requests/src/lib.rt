@@ -43,7 +43,7 @@ fn deduct_listed(m: Module, d: &[u8]) -> Served
     let x = m.inputs;
     let cs = x.counters;
     let es = entries::triples(d);
-    let wrong = !entries::items_of(3, d.len());
+    let wrong = !number_lists::items_of(3, d.len());
     let refusal = encoding::refused_if(wrong, 8, counter_effects::deduct_refusal(cs, es));
     outcomes::settle(
         refusal,
@@ -89,7 +89,7 @@ pub fn set_modes(m: Module, d: &[u8]) -> Served
     let kept = m.settings;
     let ms = kept.modes;
     let es = entries::pairs(d);
-    let wrong = !entries::items_of(2, d.len());
+    let wrong = !number_lists::items_of(2, d.len());
     let refusal = encoding::refused_if(wrong, 8, counter_effects::modes_refusal(es));
     outcomes::settle(
         refusal,

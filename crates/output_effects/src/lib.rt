@@ -140,7 +140,7 @@ fn is_ready(ps: [Preset; 16], n: u8) -> bool
     ensures { λ r. ⌜ r ≡ presetReady ps n ⌝ }
 {
     let p = preset_at(ps, n);
-    entries::is_number(n) & (p.kind != 0)
+    number_lists::is_number(n) & (p.kind != 0)
 }
 
 // Whether every preset of the list can be started.
@@ -165,7 +165,7 @@ pub fn start_refusal(ps: [Preset; 16], r: Reading, hs: [Thermostat; 16], d: &[u8
     let free = are_free(r, hs, entries::set_bytes(d));
     let ready = all_ready(ps, d);
     encoding::refused_if(
-        !entries::items_of(1, d.len()),
+        !number_lists::items_of(1, d.len()),
         8,
         encoding::refused_if(!ready, 11, encoding::refused_if(!free, 12, 0)),
     )
@@ -198,7 +198,7 @@ pub fn start(ps: [Preset; 16], os: [Output; 16], d: &[u8]) -> [Output; 16]
 fn is_settable(n: u8, kind: u8, time: u8) -> bool
     ensures { λ r. ⌜ r ≡ presetSettable (n ∷ kind ∷ time ∷ []) ⌝ }
 {
-    entries::is_number(n) & ((kind == 0) | (((kind == 2) | (kind == 3)) & (1 <= time)))
+    number_lists::is_number(n) & ((kind == 0) | (((kind == 2) | (kind == 3)) & (1 <= time)))
 }
 
 // Whether every triple can be set.
@@ -222,7 +222,7 @@ pub fn presets_refusal(d: &[u8]) -> u8
 {
     let settable = all_settable(d);
     encoding::refused_if(
-        !entries::items_of(3, d.len()),
+        !number_lists::items_of(3, d.len()),
         8,
         encoding::refused_if(!settable, 11, 0),
     )

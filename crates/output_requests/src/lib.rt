@@ -26,7 +26,7 @@ pub fn set_outputs(m: Module, d: &[u8]) -> Served
     let os = m.outputs;
     let reading = m.reading;
     let es = entries::set_bytes(d);
-    let wrong = !entries::items_of(1, d.len());
+    let wrong = !number_lists::items_of(1, d.len());
     let refusal = encoding::refused_if(wrong, 8, output_effects::switch_refusal(reading, hs, es));
     outcomes::settle(
         refusal,
@@ -44,7 +44,7 @@ fn pulse_listed(m: Module, time: HalfSeconds, d: &[u8]) -> Served
     let os = m.outputs;
     let reading = m.reading;
     let es = entries::set_bytes(d);
-    let wrong = !entries::items_of(1, d.len());
+    let wrong = !number_lists::items_of(1, d.len());
     let refusal = encoding::refused_if(
         wrong,
         8,

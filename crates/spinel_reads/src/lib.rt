@@ -139,11 +139,11 @@ fn show_one(what: Shown, s: Source, n: u8, out: Data) -> Data
 fn show_listed(what: Shown, s: Source, d: &[u8]) -> Data
     ensures { λ r. ⌜ r ≡ extended (dataOf []) (flatMap (shownBytes what s) (listed (now (d .entry)))) ⌝ }
 {
-    let count = entries::listed_count(d);
+    let count = number_lists::listed_count(d);
     let mut reply = encoding::empty();
     let mut i = 0;
     while i < count {
-        let n = entries::listed_at(d, i);
+        let n = number_lists::listed_at(d, i);
         reply = show_one(what, s, n, reply);
         i += 1;
     }
@@ -154,7 +154,7 @@ fn show_listed(what: Shown, s: Source, d: &[u8]) -> Data
 fn list_read(what: Shown, s: Source, d: &[u8]) -> Told
     ensures { λ r. ⌜ r ≡ toldOf (listRead (shownBytes what s) (now (d .entry))) ⌝ }
 {
-    let refusal = entries::list_refusal(d);
+    let refusal = number_lists::list_refusal(d);
     if refusal != 0 {
         return encoding::refuse(refusal);
     }
@@ -239,7 +239,7 @@ pub fn read_thermostats(d: &[u8], hs: [Thermostat; 16]) -> Told
     if 12 < d.len() {
         return encoding::refuse(8);
     }
-    if !entries::all_numbers(d) {
+    if !number_lists::all_numbers(d) {
         return encoding::refuse(11);
     }
     encoding::tell(show_groups(hs, d))

@@ -131,7 +131,7 @@ fn setpoint_fits(e: Setpoint) -> bool
     ensures { λ r. ⌜ r ≡ setpointFits e ⌝ }
 {
     let h = e.thermostat;
-    entries::is_number(e.number) & fits(h)
+    number_lists::is_number(e.number) & fits(h)
 }
 
 // Whether every setpoint fits.

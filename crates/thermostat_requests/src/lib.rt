@@ -16,7 +16,7 @@ pub fn set_thermostats(m: Module, d: &[u8]) -> Served
     let kept = m.settings;
     let hs = kept.thermostats;
     let es = thermostat_effects::from_groups(d);
-    let wrong = !entries::items_of(8, d.len());
+    let wrong = !number_lists::items_of(8, d.len());
     let refusal = encoding::refused_if(wrong, 8, thermostat_effects::thermostats_refusal(es));
     outcomes::settle(
         refusal,

@@ -2,7 +2,7 @@
 use denote.Ref.{now}
 use Rattle.model.specs.Refusals.{refusalOf}
 use Rattle.model.specs.Counters.{readCounters}
-use Rattle.entries.proofs.Lists.{items-length}
+use Rattle.number_lists.proofs.Lists.{items-length}
 use Rattle.counter_effects.specs.Answers.{readable}
 use Rattle.counter_effects.proofs.Readings.{named-law}
 use Rattle.counter_effects.proofs.read_refusal.Statement.{statement}

@@ -9,7 +9,7 @@ use Rattle.lists.specs.Entries.{entries}
 use Rattle.model.specs.State.{withCounters}
 use Rattle.model.specs.Refusals.{refuse, onPart, refusalOf}
 use Rattle.model.specs.Counters.{itemsOf, deduct}
-use Rattle.entries.proofs.Lists.{items-length}
+use Rattle.number_lists.proofs.Lists.{items-length}
 use Rattle.entries.proofs.Entries.{list-whole}
 use Rattle.outcomes.proofs.Laws.{decoded-law}
 use Rattle.counter_requests.proofs.deduct_listed.Statement.{statement}

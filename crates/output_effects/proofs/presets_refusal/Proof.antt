@@ -1,7 +1,7 @@
 -- `output_effects::presets_refusal` meets its contract. Assumes nothing.
 use Rattle.model.specs.Refusals.{refusalOf}
 use Rattle.model.specs.Outputs.{setPresets}
-use Rattle.entries.proofs.Lists.{items-length}
+use Rattle.number_lists.proofs.Lists.{items-length}
 use Rattle.output_effects.proofs.presets_refusal.Statement.{statement}
 use Rattle.output_effects.proofs.presets_refusal.Tie as tie
 

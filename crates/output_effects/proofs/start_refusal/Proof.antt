@@ -2,7 +2,7 @@
 use denote.Ref.{now}
 use Rattle.model.specs.Refusals.{refusalOf}
 use Rattle.model.specs.Outputs.{startPresets}
-use Rattle.entries.proofs.Lists.{items-length}
+use Rattle.number_lists.proofs.Lists.{items-length}
 use Rattle.output_effects.proofs.Judging.{started-law}
 use Rattle.output_effects.proofs.start_refusal.Statement.{statement}
 use Rattle.output_effects.proofs.start_refusal.Tie as tie

@@ -9,7 +9,7 @@ use Rattle.model.specs.State.{withOutputs}
 use Rattle.model.specs.Refusals.{refuse, onPart, refusalOf}
 use Rattle.model.specs.Counters.{itemsOf}
 use Rattle.model.specs.Outputs.{setByte, actOn, pulseOutputs}
-use Rattle.entries.proofs.Lists.{items-length}
+use Rattle.number_lists.proofs.Lists.{items-length}
 use Rattle.entries.proofs.Entries.{sets-whole}
 use Rattle.outcomes.proofs.Laws.{decoded-law}
 use Rattle.output_requests.proofs.pulse_listed.Statement.{statement}

@@ -1,7 +1,7 @@
 -- `spinel_reads::list_read` meets its contract. Assumes nothing.
 use mathlib.Core.Path.{sym, _∙_}
 use denote.Ref.{now}
-use Rattle.entries.proofs.Lists.{read-refused, read-told}
+use Rattle.number_lists.proofs.Lists.{read-refused, read-told}
 use Rattle.spinel_reads.specs.Shown.{shownBytes}
 use Rattle.spinel_reads.proofs.ListReads.{shown-most}
 use Rattle.spinel_reads.proofs.list_read.Statement.{statement}

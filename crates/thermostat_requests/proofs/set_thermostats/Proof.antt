@@ -8,7 +8,7 @@ use Rattle.lists.specs.Chunks.{chunks}
 use Rattle.model.specs.State.{withThermostats}
 use Rattle.model.specs.Refusals.{refuse, onPart, refusalOf}
 use Rattle.model.specs.Counters.{itemsOf}
-use Rattle.entries.proofs.Lists.{items-length}
+use Rattle.number_lists.proofs.Lists.{items-length}
 use Rattle.thermostat_effects.specs.declared.Setpoint.{Setpoint}
 use Rattle.thermostat_effects.specs.Parts.{groupSetpoint, setSetpoints}
 use Rattle.thermostat_effects.proofs.Decoded.{groups-whole}

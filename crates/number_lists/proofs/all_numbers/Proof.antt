@@ -1,4 +1,4 @@
--- `entries::all_numbers` meets its contract. The loop's invariant: what is left decides as the whole does. Assumes nothing.
+-- `number_lists::all_numbers` meets its contract. The loop's invariant: what is left decides as the whole does. Assumes nothing.
 use borrow.Author.Needs.{needs}
 use native.Mathlib.Omega.{arith}
 use Prim.Native.Nat.{_≤_, _-_}
@@ -9,8 +9,8 @@ use Rattle.lists.specs.Tests.{all}
 use Rattle.lists.proofs.Choices.{all-goes, all-stops, all-ends}
 use Rattle.model.specs.Counters.{isNumber}
 use Rattle.lists.proofs.ChunkLaws.{rest-first}
-use Rattle.entries.proofs.all_numbers.Statement.{statement}
-use Rattle.entries.proofs.all_numbers.Tie as tie
+use Rattle.number_lists.proofs.all_numbers.Statement.{statement}
+use Rattle.number_lists.proofs.all_numbers.Tie as tie
 
 abbrev Inv-loop : tie.InvT-loop
 Inv-loop d i₀ i = (i ≤ length d) × (all isNumber (drop i d) ≡ all isNumber d)

@@ -1,8 +1,8 @@
--- `entries::listed_at` meets its contract. Assumes nothing.
+-- `number_lists::listed_at` meets its contract. Assumes nothing.
 use mathlib.Core.Path.{sym, _∙_}
-use Rattle.entries.proofs.Lists.{listed-all, listed-own}
-use Rattle.entries.proofs.listed_at.Statement.{statement}
-use Rattle.entries.proofs.listed_at.Tie as tie
+use Rattle.number_lists.proofs.Lists.{listed-all, listed-own}
+use Rattle.number_lists.proofs.listed_at.Statement.{statement}
+use Rattle.number_lists.proofs.listed_at.Tie as tie
 
 returns : tie.Need-returns
 returns c = rw (listed-all _ (sym (c .before .before .is-all .ensures) ∙ c .before .if1 .taken)) (c .number-at .ensures)

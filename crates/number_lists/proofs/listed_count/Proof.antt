@@ -1,8 +1,8 @@
--- `entries::listed_count` meets its contract. Assumes nothing.
+-- `number_lists::listed_count` meets its contract. Assumes nothing.
 use mathlib.Core.Path.{sym, _∙_}
-use Rattle.entries.proofs.Lists.{listed-all, listed-own}
-use Rattle.entries.proofs.listed_count.Statement.{statement}
-use Rattle.entries.proofs.listed_count.Tie as tie
+use Rattle.number_lists.proofs.Lists.{listed-all, listed-own}
+use Rattle.number_lists.proofs.listed_count.Statement.{statement}
+use Rattle.number_lists.proofs.listed_count.Tie as tie
 
 returns : tie.Need-returns
 returns c = rw (listed-all _ (sym (c .before .is-all .ensures) ∙ c .if1 .taken))

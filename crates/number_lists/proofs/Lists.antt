@@ -19,7 +19,7 @@ use Rattle.model.specs.Counters.{isNumber, itemsOf, everyNumber, listed, listRe
 use Rattle.model.proofs.Short.{list-short}
 use Rattle.encoding.specs.declared.Told.{Told}
 use Rattle.encoding.specs.Answers.{toldOf}
-use Rattle.entries.specs.Items.{itemsIn, asksAll, listRefusal}
+use Rattle.number_lists.specs.Items.{itemsIn, asksAll, listRefusal}
 
 -- the test on the length is the one on the list
 pub items-length : (w : ℕ) (d : List ℕ) → itemsOf w d ≡ itemsIn w (length d)

@@ -1,4 +1,4 @@
--- `entries::items_of` meets its contract; of items of no bytes there are none. Assumes nothing.
+-- `number_lists::items_of` meets its contract; of items of no bytes there are none. Assumes nothing.
 use borrow.Author.Needs.{needs}
 use Prim.Native.Nat.{_%_}
 use lib.Dec.{eqb}
@@ -6,9 +6,9 @@ use native.Mathlib.Nat.{div-zero}
 use mathlib.Core.Path.{_≡_, refl}
 use mathlib.Core.Bool.{Bool, true, false, _&&_}
 use Rattle.lists.specs.Tests.{within}
-use Rattle.entries.specs.Items.{itemsIn}
-use Rattle.entries.proofs.items_of.Statement.{statement}
-use Rattle.entries.proofs.items_of.Tie as tie
+use Rattle.number_lists.specs.Items.{itemsIn}
+use Rattle.number_lists.proofs.items_of.Statement.{statement}
+use Rattle.number_lists.proofs.items_of.Tie as tie
 
 never : (a : Bool) → false ≡ (a && false)
 never true = refl

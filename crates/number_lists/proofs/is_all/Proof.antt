@@ -1,9 +1,9 @@
--- `entries::is_all` meets its contract. Assumes nothing.
+-- `number_lists::is_all` meets its contract. Assumes nothing.
 use borrow.Author.Needs.{needs}
 use borrow.Author.Tests.{eq-eqb, ne-eqb}
-use Rattle.entries.specs.Items.{asksAll}
-use Rattle.entries.proofs.is_all.Statement.{statement}
-use Rattle.entries.proofs.is_all.Tie as tie
+use Rattle.number_lists.specs.Items.{asksAll}
+use Rattle.number_lists.proofs.is_all.Statement.{statement}
+use Rattle.number_lists.proofs.is_all.Tie as tie
 
 returns : tie.Need-returns
 unfolding asksAll

@@ -1,9 +1,9 @@
--- `entries::all_listed` meets its contract: all sixteen are numbers. Assumes nothing.
+-- `number_lists::all_listed` meets its contract: all sixteen are numbers. Assumes nothing.
 use mathlib.Core.Path.{sym, _∙_}
 use Rattle.lists.specs.Tests.{all, within}
-use Rattle.entries.proofs.Lists.{listed-all, listed-own}
-use Rattle.entries.proofs.all_listed.Statement.{statement}
-use Rattle.entries.proofs.all_listed.Tie as tie
+use Rattle.number_lists.proofs.Lists.{listed-all, listed-own}
+use Rattle.number_lists.proofs.all_listed.Statement.{statement}
+use Rattle.number_lists.proofs.all_listed.Tie as tie
 
 returns : tie.Need-returns
 unfolding all within

@@ -1,10 +1,10 @@
--- `entries::list_refusal` meets its contract. Assumes nothing.
+-- `number_lists::list_refusal` meets its contract. Assumes nothing.
 use mathlib.Core.Path.{sym, _∙_}
 use borrow.Author.Tests.{not-true, not-false}
-use Rattle.entries.specs.Items.{listRefusal}
-use Rattle.entries.proofs.Lists.{items-length}
-use Rattle.entries.proofs.list_refusal.Statement.{statement}
-use Rattle.entries.proofs.list_refusal.Tie as tie
+use Rattle.number_lists.specs.Items.{listRefusal}
+use Rattle.number_lists.proofs.Lists.{items-length}
+use Rattle.number_lists.proofs.list_refusal.Statement.{statement}
+use Rattle.number_lists.proofs.list_refusal.Tie as tie
 
 returns : tie.Need-returns
 unfolding listRefusal
