@@ -1,4 +1,4 @@
--- From a handled frame to the call's answer, on either port. Assumes nothing.
+-- From what was handled, a sample or a frame, to the call's answer. Assumes nothing.
 use Prim.Native.Nat.{ℕ, _≤_}
 use mathlib.Core.Path.{_≡_, _∙_}
 use mathlib.Core.List.{List}
@@ -11,13 +11,17 @@ use Rattle.model.specs.Refusals.{Out}
 use Rattle.model.specs.Wire.{frameHandled, frameCall}
 use Rattle.model.specs.Spinel.{spinelWire}
 use Rattle.model.specs.Modbus.{modbusWire}
-use Rattle.model.specs.Call.{call, spinel, modbus}
-use Rattle.model.specs.Calls.{step, Answered}
+use Rattle.model.specs.Call.{call, sample, spinel, modbus}
+use Rattle.model.specs.Calls.{step, sampled, sampleCall, Answered}
 use Rattle.outcomes.specs.Parts.{handledOf}
 use Rattle.outcomes.specs.declared.Handled.{Handled}
 use Rattle.model.proofs.Refused.{refusalsHold}
 
 -- every reply fits the lent buffer, by demand 1
+pub sample-room : (bits : ℕ) (m : Module) → length (sampled bits m .reply) ≤ 256
+unfolding step sampleCall
+sample-room bits m = refusalsHold m (call 256 (sample bits)) .fits
+
 pub spinel-room : (f : List ℕ) (m : Module) → length (frameHandled spinelWire f m .reply) ≤ 256
 unfolding step frameCall
 spinel-room f m = refusalsHold m (call 256 (spinel f)) .fits

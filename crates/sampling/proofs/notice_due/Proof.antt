@@ -1,9 +1,9 @@
--- `iomodule::notice_due` meets its contract. Assumes nothing.
+-- `sampling::notice_due` meets its contract. Assumes nothing.
 use borrow.Author.Tests.{not-true, not-false, eq-eqb, ne-eqb}
 use Rattle.model.specs.Notice.{noticed}
 use Rattle.inputs.specs.Passes.{anyMasked}
-use Rattle.iomodule.proofs.notice_due.Statement.{statement}
-use Rattle.iomodule.proofs.notice_due.Tie as tie
+use Rattle.sampling.proofs.notice_due.Statement.{statement}
+use Rattle.sampling.proofs.notice_due.Tie as tie
 
 returns : tie.Need-returns
 returns c = rw (not-true (c .before .args .edged) (c .if1 .taken))
