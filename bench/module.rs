@@ -41,6 +41,21 @@ pub struct Port {
     pub permitted: bool,
 }
 
+// A load, and the state that it starts from.
+pub struct Load {
+    pub name: &'static str,
+    pub noisy: bool,
+    pub sampling: u8,
+    pub mode: u8,
+    pub mask: u16,
+    pub rest: u32,
+}
+
+pub const LOADS: [Load; 2] = [
+    Load { name: "typical", noisy: false, sampling: 20, mode: 3, mask: 0xFFFF, rest: 0 },
+    Load { name: "full", noisy: true, sampling: 1, mode: 3, mask: 0xFFFF, rest: 3_000_000 },
+];
+
 pub struct Module {
     pub lines: [Line; 16],
     pub modes: [u8; 16],
@@ -79,13 +94,20 @@ impl Module {
         }
     }
 
-    // Both edges counted, the notice on for all inputs; the first four outputs pulse, the others for `rest` samples.
-    pub fn start(sampling: u8, rest: u32) -> Module {
-        let mut outputs = [Output { on: true, left: rest }; 16];
+    // Every input counts by `mode`, the notice is on for the mask; the first four outputs pulse, the others for `rest` samples.
+    pub fn start(l: &Load) -> Module {
+        let mut outputs = [Output { on: true, left: l.rest }; 16];
         for o in &mut outputs[..4] {
             o.left = 3_000_000;
         }
-        Module { modes: [3; 16], sampling, outputs, format: 0x61, mask: 0xFFFF, signature: 2, ..Module::fresh() }
+        let (modes, sampling, mask) = ([l.mode; 16], l.sampling, l.mask);
+        Module { modes, sampling, outputs, format: 0x61, mask, signature: 2, ..Module::fresh() }
+    }
+
+    // Everything that samples change, and the bytes of the notices, added up.
+    pub fn sum(&self, written: u64) -> u64 {
+        let left = self.counters.iter().zip(&self.outputs).map(|(c, o)| *c as u64 + o.left as u64 + o.on as u64);
+        left.fold(written, u64::wrapping_add)
     }
 
     // The refusal's number, or the length of the notice.

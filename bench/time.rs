@@ -9,7 +9,7 @@ use module::*;
 use std::time::Instant;
 
 extern "C" {
-    fn load_play(noisy: bool, n: u32, sampling: u8, rest: u32, reply: *mut u8, len: usize) -> u64;
+    fn load_play(noisy: bool, n: u32, sampling: u8, mode: u8, mask: u16, rest: u32, reply: *mut u8, len: usize) -> u64;
 }
 
 const SAMPLES: u32 = 2_000_000;
@@ -43,13 +43,18 @@ fn print_line(name: &str, rust: f64, rattle: f64) {
 
 fn time_samples() {
     print_title("load");
-    for (name, noisy, sampling, rest) in [("typical", false, 20u8, 0u32), ("full", true, 1, 3_000_000)] {
+    for l in &LOADS {
         let mut reply = [0u8; 256];
-        let (rust, expected) = best(SAMPLES, || play(noisy, SAMPLES, &mut Module::start(sampling, rest), &mut reply));
-        let (rattle, got) =
-            best(SAMPLES, || unsafe { load_play(noisy, SAMPLES, sampling, rest, reply.as_mut_ptr(), reply.len()) });
-        assert_eq!(expected, got, "the two differ on the {name} load");
-        print_line(name, rust, rattle);
+        let (rust, expected) = best(SAMPLES, || {
+            let mut m = Module::start(l);
+            let written = play(l.noisy, SAMPLES, &mut m, &mut reply);
+            m.sum(written)
+        });
+        let (rattle, got) = best(SAMPLES, || unsafe {
+            load_play(l.noisy, SAMPLES, l.sampling, l.mode, l.mask, l.rest, reply.as_mut_ptr(), reply.len())
+        });
+        assert_eq!(expected, got, "the two differ on the {} load", l.name);
+        print_line(l.name, rust, rattle);
     }
 }
 

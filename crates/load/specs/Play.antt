@@ -4,9 +4,10 @@ use mathlib.Core.Bool.{Bool, true, cond}
 use mathlib.Core.List.{List, _++_}
 use lib.Bits.{bitXor}
 use lib.Dec.{eqb}
-use lib.ListN.{length, replicate}
+use lib.ListN.{length, replicate, getD}
 use Rattle.lists.specs.Data.{over}
-use Rattle.model.specs.State.{freshModule, output, notice, withModes, withSampling, withOutputs, withNotice}
+use Rattle.model.specs.declared.Output.{Output}
+use Rattle.model.specs.State.{freshModule, freshOutput, output, notice, withModes, withSampling, withOutputs, withNotice}
 use Rattle.model.specs.Calls.{sampleCall}
 use Rattle.load.specs.declared.Source.{Source}
 use Rattle.load.specs.declared.Played.{Played}
@@ -53,11 +54,24 @@ unfoldable pub bufferMany : ℕ → Bool → ℕ → Played → List ℕ → Lis
 bufferMany room noisy zero p old = old
 bufferMany room noisy (suc n) p old = bufferOne room noisy (playMany room noisy n p) (bufferMany room noisy n p old)
 
--- both edges counted, the notice on for all inputs; the first four outputs pulse, the others for `rest` samples
-unfoldable pub startOf : ℕ → ℕ → Played
-startOf sampling rest = record {
-  after = withNotice (withOutputs (withSampling (withModes freshModule (replicate 16 3)) sampling)
-      (replicate 4 (output true 3000000) ++ replicate 12 (output true rest))) (notice 0x61 0xFFFF 2);
+-- every input counts by mode, the notice is on for the inputs of the mask; the first four outputs pulse, the others for `rest` samples
+unfoldable pub startOf : ℕ → ℕ → ℕ → ℕ → Played
+startOf sampling mode mask rest = record {
+  after = withNotice (withOutputs (withSampling (withModes freshModule (replicate 16 mode)) sampling)
+      (replicate 4 (output true 3000000) ++ replicate 12 (output true rest))) (notice 0x61 mask 2);
   source = record { seed = 12345; level = 0 };
   written = 0;
 }
+
+-- what samples leave in a counter and an output, as one number
+unfoldable pub leftBy : ℕ → Output → ℕ
+leftBy counter o = cond (o .on) (counter + o .left + 1) (counter + o .left)
+
+-- that of the first i inputs and outputs, added to a number modulo 2 to the 64
+unfoldable pub sumOf : List ℕ → List Output → ℕ → ℕ → ℕ
+sumOf counters outputs n zero = n
+sumOf counters outputs n (suc i) = (sumOf counters outputs n i + leftBy (getD counters i 0) (getD outputs i freshOutput)) % 2 ^ 64
+
+-- everything that samples change: the bytes of the notices, counters and outputs
+abbrev pub summed : Played → ℕ
+summed p = sumOf (p .after .inputs .counters) (p .after .outputs) (p .written) 16

@@ -1,7 +1,7 @@
 // Runs of generated samples, typical and full load: their outcome is checked, and they are timed.
 ghost use mathlib.Core.Path.{_≡_};
 ghost use lib.ListN.{length};
-ghost use Rattle.load.specs.Play.{nextSeed, typicalNext, noisyNext, sourceNext, playOne, bufferOne, playMany, bufferMany, startOf};
+ghost use Rattle.load.specs.Play.{nextSeed, typicalNext, noisyNext, sourceNext, playOne, bufferOne, playMany, bufferMany, startOf, leftBy, summed};
 use model::Module;
 use model::Notice;
 use model::Output;
@@ -97,13 +97,13 @@ pub fn play(noisy: bool, n: u32, p: Played, reply: &mut [u8]) -> Played
     q
 }
 
-// The state to start from: four pulses, and twelve of `rest` samples.
-pub fn start(sampling: u8, rest: u32) -> Played
-    ensures { λ r. ⌜ r ≡ startOf sampling rest ⌝ }
+// The state to start from: every input counts by `mode` and tells by the mask; four pulses, and twelve of `rest` samples.
+pub fn start(sampling: u8, mode: u8, mask: u16, rest: u32) -> Played
+    ensures { λ r. ⌜ r ≡ startOf sampling mode mask rest ⌝ }
 {
     let f = model::fresh();
     let mut settings = f.settings;
-    settings.modes = [3; 16];
+    settings.modes = [mode; 16];
     settings.sampling = sampling;
     let first = Output {
         on: true,
@@ -119,7 +119,7 @@ pub fn start(sampling: u8, rest: u32) -> Played
     outputs[3] = first;
     let notice = Notice {
         format: 0x61,
-        mask: 0xFFFF,
+        mask,
         signature: 2,
     };
     settings.notice = notice;
@@ -137,12 +137,48 @@ pub fn start(sampling: u8, rest: u32) -> Played
     }
 }
 
-// One load from its start, for a caller that times it: the bytes of its notices.
-#[no_mangle]
-pub extern "C" fn load_play(noisy: bool, n: u32, sampling: u8, rest: u32, reply: &mut [u8]) -> u64
-    ensures { λ r. ⌜ r ≡ playMany (length (now (reply .entry))) noisy n (startOf sampling rest) .written ⌝ }
-    ensures { λ _. ⌜ now (reply .exit) ≡ bufferMany (length (now (reply .entry))) noisy n (startOf sampling rest) (now (reply .entry)) ⌝ }
+// What samples leave in a counter and an output, as one number.
+fn left_by(counter: u16, o: Output) -> u64
+    ensures { λ r. ⌜ r ≡ leftBy counter o ⌝ }
 {
-    let p = play(noisy, n, start(sampling, rest), reply);
-    p.written
+    let both = (counter as u64) + (o.left as u64);
+    if o.on {
+        return both + 1;
+    }
+    both
+}
+
+// Everything that samples change, added up: a compiler may leave out what nobody asks for.
+fn sum(p: Played) -> u64
+    ensures { λ r. ⌜ r ≡ summed p ⌝ }
+{
+    let m = p.after;
+    let x = m.inputs;
+    let counters = x.counters;
+    let outputs = m.outputs;
+    let mut total = p.written;
+    for i in 0..16usize {
+        let counter = counters[i];
+        let o = outputs[i];
+        total = std::num::wrapping_add_u64(total, left_by(counter, o));
+    }
+    total
+}
+
+// One load from its start, for a caller that times it. Nothing of it is known before the call, so that all is worked out in it.
+#[no_mangle]
+pub extern "C" fn load_play(
+    noisy: bool,
+    n: u32,
+    sampling: u8,
+    mode: u8,
+    mask: u16,
+    rest: u32,
+    reply: &mut [u8],
+) -> u64
+    ensures { λ r. ⌜ r ≡ summed (playMany (length (now (reply .entry))) noisy n (startOf sampling mode mask rest)) ⌝ }
+    ensures { λ _. ⌜ now (reply .exit) ≡ bufferMany (length (now (reply .entry))) noisy n (startOf sampling mode mask rest) (now (reply .entry)) ⌝ }
+{
+    let p = play(noisy, n, start(sampling, mode, mask, rest), reply);
+    sum(p)
 }

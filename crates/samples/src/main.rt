@@ -23,8 +23,13 @@ fn number_at(p: Played, i: usize) -> u64
 // What is written has no contract: io::write_all promises nothing of it. The gate holds it to the file `stdout`.
 fn main() {
     let mut reply = [0u8; 256];
-    let typical = load::play(false, 2_000_000, load::start(20, 0), &mut reply);
-    let full = load::play(true, 2_000_000, load::start(1, 3_000_000), &mut reply);
+    let typical = load::play(false, 2_000_000, load::start(20, 3, 0xFFFF, 0), &mut reply);
+    let full = load::play(
+        true,
+        2_000_000,
+        load::start(1, 3, 0xFFFF, 3_000_000),
+        &mut reply,
+    );
     io::write_all(STDOUT_FILENO, b"typical load\n");
     for i in 0..34usize {
         if i == 17 {
