@@ -25,7 +25,7 @@ pub struct Outcome {
 fn ready() -> Played
     ensures { λ r. ⌜ r ≡ readyToPlay ⌝ }
 {
-    let mut m = model::fresh();
+    let mut m = startup::fresh();
     let mut inputs = m.inputs;
     inputs.counters = [
         65535,

@@ -16,7 +16,7 @@ use outcomes::Handled;
 pub fn fresh() -> Module
     ensures { λ r. ⌜ r ≡ freshModule ⌝ }
 {
-    model::fresh()
+    startup::fresh()
 }
 
 // The one function that writes a lent buffer: the first n bytes.

@@ -101,7 +101,7 @@ pub fn play(noisy: bool, n: u32, p: Played, reply: &mut [u8]) -> Played
 pub fn start(sampling: u8, mode: u8, mask: u16, rest: u32) -> Played
     ensures { λ r. ⌜ r ≡ startOf sampling mode mask rest ⌝ }
 {
-    let f = model::fresh();
+    let f = startup::fresh();
     let mut settings = f.settings;
     settings.modes = [mode; 16];
     settings.sampling = sampling;

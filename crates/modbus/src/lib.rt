@@ -153,13 +153,13 @@ fn write_group(m: Module, permitted: bool, single: bool, a: u16, d: &[u8]) -> Se
     ensures { λ r. ⌜ r ≡ servedOf (judged m (registersWritten permitted single a (words (now (d .entry))) m)) ⌝ }
 {
     match a {
-        0 => port_requests::write_permission(m, single, a, d),
-        1..=2 => port_requests::write_port(m, permitted, a, d),
-        100..=115 => counter_requests::write_counters(m, a, d),
-        200..=215 => counter_requests::write_deductions(m, a, d),
-        300..=315 => counter_requests::write_modes(m, a, d),
-        500..=515 => output_requests::write_pulse(m, a, d),
-        600..=663 => thermostat_requests::write_thermostat(m, a, d),
+        0 => port_registers::write_permission(m, single, a, d),
+        1..=2 => port_registers::write_port(m, permitted, a, d),
+        100..=115 => counter_registers::write_counters(m, a, d),
+        200..=215 => counter_registers::write_deductions(m, a, d),
+        300..=315 => counter_registers::write_modes(m, a, d),
+        500..=515 => output_registers::write_pulse(m, a, d),
+        600..=663 => thermostat_registers::write_thermostat(m, a, d),
         _ => modbus_bodies::no_group(m),
     }
 }
@@ -173,7 +173,7 @@ fn write_coil(m: Module, b: &[u8]) -> Served
     }
     let a = encoding::word_from(b, 0);
     let v = encoding::word_from(b, 2);
-    modbus_bodies::echo(output_requests::write_coil(m, a, v), b)
+    modbus_bodies::echo(output_registers::write_coil(m, a, v), b)
 }
 
 // 06: one register.
@@ -197,7 +197,7 @@ fn write_coils(m: Module, b: &[u8]) -> Served
         return modbus_bodies::wrong_body(m);
     }
     let a = encoding::word_from(b, 0);
-    modbus_bodies::echo(output_requests::write_coils(m, a, n, &b[5..]), b)
+    modbus_bodies::echo(output_registers::write_coils(m, a, n, &b[5..]), b)
 }
 
 // 10H: several registers.
@@ -241,8 +241,8 @@ fn act(m: Module, frame: &[u8]) -> Handled
     let to = frame[0];
     let function = frame[1];
     let b = frames::modbus_body(frame);
-    let s = serve(modbus_bodies::use_up(m), port.permitted, function, b);
-    modbus_bodies::answer(port.address, to, function, s)
+    let s = serve(port_answers::modbus_use_up(m), port.permitted, function, b);
+    port_answers::modbus_answer(port.address, to, function, s)
 }
 
 // Any frame: checks 2 to 6, then the function.

@@ -1,27 +1,21 @@
--- The echo of a write, and the reply. Assumes nothing.
+-- The echo of a write. Assumes nothing.
 use Prim.Native.Nat.{ℕ, _≤_}
 use native.Mathlib.Omega.{arith}
 use mathlib.Core.Path.{_≡_, refl, ap, _∙_}
-use mathlib.Core.Bool.{Bool, false, cond}
+use mathlib.Core.Bool.{Bool, false}
 use mathlib.Core.List.{List, [], _∷_}
 use lib.ListN.{length, take}
-use lib.Dec.{eqb}
 use borrow.Author.Tests.{ne-eqb}
 use Rattle.lists.specs.Data.{dataOf, pushed}
-use Rattle.lists.specs.declared.Data.{Data}
 use Rattle.lists.proofs.DataLaws.{push-law}
 use Rattle.lists.proofs.ChunkLaws.{piece}
 use Rattle.model.specs.declared.Module.{Module}
-use Rattle.model.specs.Frames.{modbusTo, functionOf, modbusBroadcast, modbusReply, exceptionReply}
-use Rattle.model.specs.Refusals.{Request, refuse, Done, judged, exceptionOf}
-use Rattle.model.specs.Wire.{frameAnswered}
-use Rattle.model.specs.Modbus.{answering, modbusWire}
+use Rattle.model.specs.Refusals.{Request, refuse, judged}
+use Rattle.model.specs.Modbus.{answering}
 use Rattle.model.proofs.Judged.{judged-both}
-use Rattle.replies.proofs.Framing.{modbus-law}
 use Rattle.outcomes.specs.declared.Served.{Served}
-use Rattle.outcomes.specs.Parts.{servedOf, handledOf}
-use Rattle.outcomes.proofs.Laws.{both}
-use Rattle.modbus_bodies.specs.Parts.{headOf, echoed, answeredTo}
+use Rattle.outcomes.specs.Parts.{servedOf}
+use Rattle.modbus_bodies.specs.Parts.{headOf, echoed}
 use Rattle.modbus_bodies.proofs.Laws.{passed-8}
 
 -- only an accepted request's data changes
@@ -42,17 +36,3 @@ four-pushed a b c d =
 -- a body that has them
 pub head-law : (b : List ℕ) → 4 ≤ length b → headOf b ≡ take 4 b
 head-law b h = rw (piece 3 0 b 0 (omega arith), piece 2 1 b 0 (omega arith), piece 1 2 b 0 (omega arith), piece 0 3 b 0 (omega arith))
-
--- the reply around the data
-pub answered-law : (own : ℕ) (f : List ℕ) (s : Served) (o : Done Module) → s ≡ servedOf o → length (o .reply) ≤ 252
-    → answeredTo own (modbusTo f) (functionOf f) s ≡ handledOf (frameAnswered modbusWire own f o)
-unfolding frameAnswered
-answered-law own f s o e h =
-    let quiet = eqb (modbusTo f) modbusBroadcast in
-    let good = eqb (o .refusal) 0 in
-    let error = exceptionReply own (functionOf f) (exceptionOf (o .refusal)) in
-    ap (answeredTo own (modbusTo f) (functionOf f)) e
-    ∙ ap (λ (x : Data). record { refusal = o .refusal; after = o .part; reply = x })
-    (ap (λ (x : Data). cond quiet (dataOf []) (cond good x (dataOf error))) (modbus-law own (functionOf f) (o .reply) h)
-    ∙ ap (cond quiet (dataOf [])) (both good (modbusReply own (functionOf f) (o .reply)) error)
-    ∙ both quiet [] _)

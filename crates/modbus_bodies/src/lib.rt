@@ -1,11 +1,9 @@
-// What every Modbus function shares: the checks of a body, the echo of a write, the permission, and the reply or exception.
+// What every Modbus function shares: the checks of a body, and the echo of a write.
 ghost use mathlib.Core.Path.{_≡_};
-ghost use Rattle.model.specs.Modbus.{quantityWrong, countWrong, modbusWire};
-ghost use Rattle.model.specs.Wire.{usedUp};
+ghost use Rattle.model.specs.Modbus.{quantityWrong, countWrong};
 ghost use Rattle.outcomes.specs.Parts.{plain};
-ghost use Rattle.modbus_bodies.specs.Parts.{headOf, echoed, answeredTo};
+ghost use Rattle.modbus_bodies.specs.Parts.{headOf, echoed};
 use model::Module;
-use outcomes::Handled;
 use outcomes::Served;
 
 // 8: the body is not what its function names.
@@ -64,43 +62,5 @@ pub fn echo(s: Served, b: &[u8]) -> Served
         refusal: 0,
         after,
         body: four,
-    }
-}
-
-// A request that passes 1 to 6 uses the port's permission up.
-pub fn use_up(m: Module) -> Module
-    ensures { λ r. ⌜ r ≡ usedUp modbusWire m ⌝ }
-{
-    let modbus = port_effects::permitted(m.modbus, false);
-    let mut next = m;
-    next.modbus = modbus;
-    next
-}
-
-// The reply, or the exception: none to a broadcast.
-pub fn answer(own: u8, to: u8, function: u8, s: Served) -> Handled
-    ensures { λ r. ⌜ r ≡ answeredTo own to function s ⌝ }
-{
-    let refusal = s.refusal;
-    let after = s.after;
-    if to == 0 {
-        return Handled {
-            refusal,
-            after,
-            reply: encoding::empty(),
-        };
-    }
-    if refusal != 0 {
-        return Handled {
-            refusal,
-            after,
-            reply: replies::exception_reply(own, function, replies::exception_of(refusal)),
-        };
-    }
-    let body = s.body;
-    Handled {
-        refusal,
-        after,
-        reply: replies::modbus_reply(own, function, body),
     }
 }

@@ -1,6 +1,4 @@
-// The module's state, and the fresh one.
-ghost use mathlib.Core.Path.{_≡_};
-ghost use Rattle.model.specs.State.{freshModule};
+// The module's state, and what a call answers.
 
 // One input: its stable state, and the run of samples that differ from it.
 pub struct Line {
@@ -92,52 +90,4 @@ pub struct Answer {
     pub refusal: u8,
     pub len: usize,
     pub after: Module,
-}
-
-// The fifth call: the fresh state.
-pub fn fresh() -> Module
-    ensures { λ r. ⌜ r ≡ freshModule ⌝ }
-{
-    Module {
-        inputs: Inputs {
-            lines: [Line {
-                stable: false,
-                run: 0,
-            }; 16],
-            counters: [0; 16],
-        },
-        outputs: [Output { on: false, left: 0 }; 16],
-        settings: Settings {
-            modes: [0; 16],
-            sampling: 20,
-            presets: [Preset {
-                kind: 0,
-                time: HalfSeconds(0),
-            }; 16],
-            thermostats: [Thermostat {
-                flags: 0,
-                tempx: 0,
-                tempy: 0,
-                time: Seconds(0),
-                err: 0,
-            }; 16],
-            notice: Notice {
-                format: 0,
-                mask: 0,
-                signature: 0,
-            },
-        },
-        reading: Reading::Fault,
-        last: Reading::Fault,
-        spinel: Port {
-            address: 0x31,
-            speed: 6,
-            permitted: false,
-        },
-        modbus: Port {
-            address: 0x31,
-            speed: 6,
-            permitted: false,
-        },
-    }
 }

@@ -1,4 +1,4 @@
-// The notice's settings, the ports' address, speed and permission, and the reset.
+// The notice's settings, and the ports' address, speed and permission.
 ghost use mathlib.Core.Path.{_≡_};
 ghost use mathlib.Core.Bool.{cond, not, _&&_};
 ghost use mathlib.Core.List.{foldl};
@@ -9,7 +9,7 @@ ghost use Rattle.lists.specs.Tests.{all};
 ghost use Rattle.lists.specs.Entries.{entriesIn};
 ghost use Rattle.model.specs.State.{permit};
 ghost use Rattle.model.specs.Refusals.{refusalOf};
-ghost use Rattle.model.specs.Counters.{runsEnded, clearedCounters, reset, readPort};
+ghost use Rattle.model.specs.Counters.{readPort};
 ghost use Rattle.model.specs.Notice.{isOn, maskGiven, setNotice, readNotice};
 ghost use Rattle.model.specs.Registers.{portSettable};
 ghost use Rattle.encoding.specs.Answers.{toldOf};
@@ -17,11 +17,7 @@ ghost use Rattle.port_effects.specs.Parts.{setPortByte};
 use encoding::Told;
 use lists::Entries;
 use lists::Entry;
-use model::Inputs;
-use model::Line;
-use model::Module;
 use model::Notice;
-use model::Output;
 use model::Port;
 use rules::Rule;
 
@@ -32,51 +28,6 @@ pub fn permitted(p: Port, given: bool) -> Port
     Port {
         permitted: given,
         ..p
-    }
-}
-
-// Runs zeroed, stable states kept.
-fn reset_lines(a: [Line; 16]) -> [Line; 16]
-    ensures { λ r. ⌜ r ≡ runsEnded a ⌝ }
-{
-    let mut next = a;
-    for i in 0..16usize {
-        let x = next[i];
-        next[i] = Line {
-            stable: x.stable,
-            run: 0,
-        };
-    }
-    next
-}
-
-fn reset_inputs(x: Inputs) -> Inputs
-    ensures { λ r. ⌜ r ≡ record { lines = runsEnded (x .lines); counters = clearedCounters } ⌝ }
-{
-    let was = x.lines;
-    let lines = reset_lines(was);
-    let mut next = x;
-    next.lines = lines;
-    next.counters = [0; 16];
-    next
-}
-
-// A reset: outputs off, no pulse, counter or run left, no port permitted; all else stays.
-pub fn reset_state(m: Module) -> Module
-    ensures { λ r. ⌜ r ≡ reset m ⌝ }
-{
-    let x = m.inputs;
-    let p = m.spinel;
-    let q = m.modbus;
-    let inputs = reset_inputs(x);
-    let spinel = permitted(p, false);
-    let modbus = permitted(q, false);
-    Module {
-        inputs,
-        outputs: [Output { on: false, left: 0 }; 16],
-        spinel,
-        modbus,
-        ..m
     }
 }
 

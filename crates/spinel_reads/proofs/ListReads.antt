@@ -3,13 +3,11 @@ use Prim.Native.Nat.{ℕ, _≤_}
 use native.Mathlib.Omega.{arith}
 use mathlib.Core.Path.{_≡_, refl}
 use mathlib.Core.Bool.{Bool, true, cond}
-use mathlib.Core.List.{List, [], _∷_, _++_, flatMap}
+use mathlib.Core.List.{List, [], _∷_, flatMap}
 use lib.Dec.{eqb}
 use lib.ListN.{length}
 use borrow.Author.Tests.{ne-eqb}
-use Rattle.lists.specs.Data.{dataOf, extended, pushed}
-use Rattle.lists.specs.declared.Data.{Data}
-use Rattle.lists.specs.Numbers.{bytes}
+use Rattle.lists.specs.Data.{dataOf, extended}
 use Rattle.lists.specs.Tests.{all, within}
 use Rattle.lists.proofs.Choices.{cond-case, within-low, all-first}
 use Rattle.lists.proofs.DataLaws.{extend-law}
@@ -22,11 +20,6 @@ use Rattle.spinel_reads.specs.declared.Shown.{Shown}
 use Rattle.spinel_reads.specs.declared.Shown.the-variants.{InputModes, Pulses, Presets, OutputModes, Groups}
 use Rattle.spinel_reads.specs.declared.Source.{Source}
 use Rattle.spinel_reads.specs.Shown.{shownBytes, allIfNone}
-
--- a group after a reply, piece by piece
-pub group-extends : (r : Data) (n f x y t e : ℕ) → pushed (pushed (extended (extended (pushed (pushed r n) f) (bytes 2 x)) (bytes 2 y)) t) e ≡ extended r (n ∷ f ∷ bytes 2 x ++ bytes 2 y ++ t ∷ e ∷ [])
-unfolding extended bytes
-group-extends r n f x y t e = refl
 
 -- a number shows eight bytes at most
 pub shown-most : (what : Shown) (s : Source) (n : ℕ) → length (shownBytes what s n) ≤ 16

@@ -1,15 +1,13 @@
 -- What a list read shows for a number, by its kind.
 use Prim.Native.Nat.{ℕ}
 use mathlib.Core.Bool.{cond}
-use mathlib.Core.List.{List, [], _∷_, _++_}
+use mathlib.Core.List.{List, [], _∷_}
 use lib.Dec.{eqb}
 use lib.ListN.{length, replicate}
-use Rattle.lists.specs.Numbers.{bytes}
-use Rattle.model.specs.declared.Thermostat.{Thermostat}
 use Rattle.model.specs.State.{freshOutput, freshPreset, freshThermostat}
 use Rattle.model.specs.Counters.{modeShown}
 use Rattle.model.specs.Outputs.{pulseShown, presetShown, modeByte}
-use Rattle.model.specs.Temperature.{patternOf, groupShown}
+use Rattle.model.specs.Temperature.{groupShown}
 use Rattle.spinel_reads.specs.declared.Shown.{Shown}
 use Rattle.spinel_reads.specs.declared.Shown.the-variants.{InputModes, Pulses, Presets, OutputModes, Groups}
 use Rattle.spinel_reads.specs.declared.Source.{Source}
@@ -25,10 +23,6 @@ shownBytes Pulses s = pulseShown (s .outputs)
 shownBytes Presets s = presetShown (s .presets)
 shownBytes OutputModes s = modeByte (s .thermostats) (s .presets)
 shownBytes Groups s = groupShown (s .thermostats)
-
--- a thermostat as a group shows it
-abbrev pub settingsShown : ℕ → Thermostat → List ℕ
-settingsShown n h = n ∷ h .flags ∷ bytes 2 (patternOf (h .tempx)) ++ bytes 2 (patternOf (h .tempy)) ++ h .time .0 ∷ h .err ∷ []
 
 -- 1BH as a list read: a single 00 where it has no data
 unfoldable pub allIfNone : List ℕ → List ℕ

@@ -8,7 +8,7 @@ use Rattle.model.specs.Modbus.{modbusWire}
 use Rattle.model.proofs.Short.{modbus-short}
 use Rattle.modbus.proofs.act.Statement.{statement}
 use Rattle.modbus.proofs.act.Tie as tie
-use Rattle.modbus_bodies.proofs.Echoes.{answered-law}
+use Rattle.port_answers.proofs.Laws.{modbus-answered}
 
 returns : tie.Need-returns
 unfolding frameActed
@@ -18,8 +18,8 @@ returns c =
     let sent = u .before in
     let a = sent .before .before .before .before .before .args in
     let f = now (a .frame) in
-    c .answer .ensures
-    ∙ answered-law (a .m .modbus .address) f (s .serve .result) _ (rw (u .use-up .ensures, sent .modbus-body .ensures) at (s .serve .ensures)) (modbus-short (a .m .modbus .permitted) (functionOf f) (modbusBody f) (usedUp modbusWire (a .m)) (usedUp modbusWire (a .m)))
+    c .modbus-answer .ensures
+    ∙ modbus-answered (a .m .modbus .address) f (s .serve .result) _ (rw (u .modbus-use-up .ensures, sent .modbus-body .ensures) at (s .serve .ensures)) (modbus-short (a .m .modbus .permitted) (functionOf f) (modbusBody f) (usedUp modbusWire (a .m)) (usedUp modbusWire (a .m)))
 
 pub act-spec : {M : Type 1} → statement M
 act-spec =

@@ -5,7 +5,7 @@ use denote.Ref.{now}
 use Rattle.model.specs.Wire.{usedUp, frameActed}
 use Rattle.model.specs.Spinel.{spinelRequest, spinelWire}
 use Rattle.model.proofs.Short.{spinel-short}
-use Rattle.spinel.proofs.Laws.{answered-law}
+use Rattle.port_answers.proofs.Laws.{spinel-answered}
 use Rattle.spinel.proofs.act.Statement.{statement}
 use Rattle.spinel.proofs.act.Tie as tie
 
@@ -17,8 +17,8 @@ returns c =
     let sent = u .before in
     let a = sent .before .before .before .before .before .before .args in
     let f = now (a .frame) in
-    c .answer .ensures
-    ∙ answered-law (a .m .spinel .address) f (s .serve .result) _ (rw (u .use-up .ensures, sent .spinel-data .ensures) at (s .serve .ensures)) (spinel-short (spinelRequest (a .m .spinel .permitted) f) (usedUp spinelWire (a .m)) (usedUp spinelWire (a .m)))
+    c .spinel-answer .ensures
+    ∙ spinel-answered (a .m .spinel .address) f (s .serve .result) _ (rw (u .spinel-use-up .ensures, sent .spinel-data .ensures) at (s .serve .ensures)) (spinel-short (spinelRequest (a .m .spinel .permitted) f) (usedUp spinelWire (a .m)) (usedUp spinelWire (a .m)))
 
 pub act-spec : {M : Type 1} → statement M
 act-spec =
