@@ -105,9 +105,10 @@ pub fn reset_state(m: Module) -> Module
     let inputs = reset_inputs(x);
     let spinel = port_effects::permitted(p, false);
     let modbus = port_effects::permitted(q, false);
+    let outputs = [Output { on: false, left: 0 }; 16];
     Module {
         inputs,
-        outputs: [Output { on: false, left: 0 }; 16],
+        outputs,
         spinel,
         modbus,
         ..m
