@@ -1,6 +1,6 @@
 -- The two checks, passed from the front: one more byte or bit, and the end. Assumes nothing.
 use mathlib.Core.Path.{_≡_}
-use mathlib.Core.List.{List, foldl}
+use mathlib.Core.List.{List}
 use Prim.Native.Nat.{ℕ, suc, _+_, _-_, _<_, _≤_}
 use native.Mathlib.Omega.{arith}
 use native.Mathlib.Numerals.{add-one}
@@ -15,12 +15,6 @@ total-next s i h = rw (drop-cons s i 0, add-one)
 pub total-end : (s : List ℕ) (i : ℕ) → length s ≤ i → total (drop i s) ≡ 0
 unfolding total
 total-end s i h = rw drop-of-length-le
-
-pub fold-next : (f : ℕ → ℕ → ℕ) (a : ℕ) (s : List ℕ) (i : ℕ) → i < length s → foldl f a (drop i s) ≡ foldl f (f a (getD s i 0)) (drop (i + 1) s)
-fold-next f a s i h = rw (drop-cons s i 0, add-one)
-
-pub fold-end : (f : ℕ → ℕ → ℕ) (a : ℕ) (s : List ℕ) (i : ℕ) → length s ≤ i → foldl f a (drop i s) ≡ a
-fold-end f a s i h = rw drop-of-length-le
 
 pub bits-next : (i x : ℕ) → i < 8 → crcBits (8 - i) x ≡ crcBits (8 - (i + 1)) (crcBit x)
 unfolding crcBits

@@ -9,11 +9,10 @@ use lib.ListN.{length, getD}
 use Rattle.lists.specs.Tests.{within, all}
 use Rattle.lists.specs.Data.{dataOf, extended}
 use Rattle.lists.specs.Numbers.{bytes}
-use Rattle.lists.proofs.DataLaws.{extend-law}
+use Rattle.lists.proofs.DataLaws.{extend-law, extended-append}
 use Rattle.model.specs.Samples.{counterBits, counterBytes}
 use Rattle.model.specs.Counters.{isNumber, everyNumber, itemsOf, zeroes, numberIn, parameters, readOne, valuesRead, readCounters}
 use Rattle.model.proofs.Short.{counters-short}
-use Rattle.number_lists.proofs.Lists.{extended-append}
 use Rattle.counter_effects.specs.declared.Collected.{Collected}
 use Rattle.counter_effects.specs.Answers.{readable, asksEvery, everyOf, readStep, readRest}
 

@@ -2,14 +2,15 @@
 use Prim.Native.Nat.{ℕ, zero, suc, _+_, _-_, _/_, _%_, _^_, _<_, _≤_}
 use native.Mathlib.Omega.{arith}
 use native.Mathlib.Nat.{pow-suc}
-use mathlib.Core.Path.{_≡_, refl, sym, ap, _∙_}
+use mathlib.Core.Path.{_≡_, refl, sym}
 use mathlib.Core.Bool.{Bool, true, false, cond}
 use mathlib.Core.List.{List, [], _∷_, _++_, append-assoc}
 use lib.Dec.{ltb}
-use lib.ListN.{length, drop, set, replicate, length-append, length-replicate, replicate-append-replicate}
-use lib.Seq.{set-append-seam, append-snoc, drop-cons, drop-set-lt, getD-set-same, lt-length-set}
+use lib.ListN.{length, drop, set, replicate, length-append}
+use lib.Seq.{drop-cons, drop-set-lt, getD-set-same, lt-length-set}
 use borrow.Author.Tests.{lt-ltb, le-ltb, ltb-false}
 use Rattle.digits.specs.Writing.{character, written, placesIn, places, decimalText, padded}
+use Rattle.lists.proofs.DataLaws.{filled-length, filled-push, filled-more}
 
 pub length-written : (base w n : ℕ) → length (written base w n) ≡ w
 unfolding written
@@ -62,26 +63,16 @@ stored base (suc j) left bytes h k =
     let b = character (left % base) in
     rw (less, drop-cons (set bytes j b) j 0 (lt-length-set bytes j b (omega arith)), getD-set-same bytes j b 0 (omega arith), drop-set-lt (suc j) bytes j b (omega arith)) (sym (append-assoc (written base j (left / base)) (b ∷ []) (drop (suc j) bytes)))
 
-pub drop-zeros : (i n : ℕ) → drop i (replicate {A = ℕ} n 0) ≡ replicate (n - i) 0
-drop-zeros zero n = rw (let none : n - 0 ≡ n = omega arith in none)
-drop-zeros (suc i) zero = rw (let none : 0 - suc i ≡ 0 = omega arith in none)
-drop-zeros (suc i) (suc n) = drop-zeros i n ∙ ap (λ k. replicate k 0) (let less : n - i ≡ suc n - suc i = omega arith in less)
-
 pub length-padded : (w : ℕ) (l : List ℕ) → length l ≤ w → length (padded w l) ≡ w
 unfolding padded
-length-padded w l h = simp (length-append, length-replicate) (omega arith)
+length-padded w l h = filled-length w 0 l h
 
 -- a store behind the last character that counts
 pub padded-push : (w : ℕ) (l : List ℕ) (b : ℕ) → length l < w → set (padded w l) (length l) b ≡ padded w (l ++ b ∷ [])
 unfolding padded
-padded-push w l b h =
-    let more : w - length l ≡ suc (w - 1 - length l) = omega arith in
-    let less : w - (length l + 1) ≡ w - 1 - length l = omega arith in
-    rw (more, set-append-seam, length-append, less, append-snoc)
+padded-push w l b h = filled-push w 0 l b h
 
 -- the same characters in more room
 pub padded-more : (v w : ℕ) (l : List ℕ) → length l ≤ v → v ≤ w → padded v l ++ replicate (w - v) 0 ≡ padded w l
 unfolding padded
-padded-more v w l h k =
-    let all : v - length l + (w - v) ≡ w - length l = omega arith in
-    append-assoc l _ _ ∙ rw (replicate-append-replicate {A = ℕ} (v - length l) (w - v) 0, all)
+padded-more v w l h k = filled-more v w 0 l h k

@@ -1,9 +1,10 @@
 -- A number as text, in ASCII.
-use Prim.Native.Nat.{ℕ, zero, suc, _+_, _-_, _/_, _%_}
+use Prim.Native.Nat.{ℕ, zero, suc, _+_, _/_, _%_}
 use mathlib.Core.Bool.{cond}
 use mathlib.Core.List.{List, [], _∷_, _++_}
 use lib.Dec.{ltb}
-use lib.ListN.{length, replicate}
+use lib.ListN.{length}
+use Rattle.lists.specs.Data.{filled}
 use Rattle.digits.specs.declared.Numeral.{Numeral}
 
 -- a digit below 16: `0` to `9`, then `A` to `F`
@@ -34,7 +35,7 @@ hexText b = written 16 2 b
 
 -- the characters l, and zeros to w
 unfoldable pub padded : ℕ → List ℕ → List ℕ
-padded w l = l ++ replicate (w - length l) 0
+padded w l = filled w 0 l
 
 abbrev pub numeralOf : List ℕ → Numeral
 numeralOf l = record { bytes = padded 20 l; len = length l }

@@ -4,9 +4,9 @@ use native.Mathlib.Omega.{arith}
 use native.Mathlib.Nat.{le-of-suc-le-suc, not-suc-le-zero}
 use mathlib.Core.Path.{_≡_, refl, sym, ap, _∙_}
 use mathlib.Core.Bool.{true, false}
-use mathlib.Core.List.{List, [], _∷_, map}
+use mathlib.Core.List.{List, map}
 use lib.Dec.{eqb}
-use lib.ListN.{length, getD, take, drop, length-map, List·getD-eq-default, List·getD-map}
+use lib.ListN.{length, getD, take, length-map, List·getD-eq-default, List·getD-map}
 use Rattle.lists.specs.Numbers.{number, wordAt}
 use Rattle.lists.specs.Chunks.{chunks}
 use Rattle.lists.specs.Entries.{entry, entryOf, entries, numbered, entriesOf, entriesIn}
@@ -19,6 +19,7 @@ use Rattle.model.specs.Outputs.{setByte}
 use Rattle.model.specs.Modbus.{words, bitsFrom}
 use Rattle.model.specs.Registers.{bitGroup, outside, numberAt}
 use Rattle.groups.proofs.Inside.{inside}
+use Rattle.lists.proofs.Parts.{two-from}
 
 -- so many values of two bytes
 pub words-length : (d : List ℕ) → length (words d) ≡ length d / 2
@@ -59,23 +60,19 @@ pub set-place : (d : List ℕ) (j : ℕ) → setByte (getD d j 0) ≡ getD (map 
 unfolding setByte
 set-place d j = sym (List·getD-map setByte d j 0)
 
--- two bytes from i on
-two-bytes : (d : List ℕ) (i : ℕ) → i + 2 ≤ length d → take 2 (drop i d) ≡ getD d i 0 ∷ getD d (i + 1) 0 ∷ []
-two-bytes d i h = rw (piece 1 i d 0 (omega arith), piece 0 (i + 1) d 0 (omega arith))
-
 module _ (d : List ℕ) (j : ℕ) where
   pub pair-place : j < length d / 2 → entry (getD d (2 * j) 0) (getD d (2 * j + 1) 0) ≡ getD (entries 2 d) j (entry 0 0)
   unfolding entryOf
-  pair-place h = sym (entry-at 2 j d (entry 0 0) h ∙ rw (two-bytes d (2 * j) (omega arith)))
+  pair-place h = sym (entry-at 2 j d (entry 0 0) h ∙ rw (two-from d (2 * j) (omega arith)))
 
   pub triple-place : j < length d / 3 → entry (getD d (3 * j) 0) (wordAt d (3 * j + 1)) ≡ getD (entries 3 d) j (entry 0 0)
   unfolding entryOf
-  triple-place h = sym (entry-at 3 j d (entry 0 0) h ∙ rw (piece 2 (3 * j) d 0 (omega arith), two-bytes d (3 * j + 1) (omega arith)))
+  triple-place h = sym (entry-at 3 j d (entry 0 0) h ∙ rw (piece 2 (3 * j) d 0 (omega arith), two-from d (3 * j + 1) (omega arith)))
 
   -- the value at a place
   pub value-place : j < length d / 2 → wordAt d (2 * j) ≡ getD (words d) j 0
   unfolding words chunks
-  value-place h = sym (chunk-at number 2 (length d / 2) d j 0 h ∙ rw (two-bytes d (2 * j) (omega arith)))
+  value-place h = sym (chunk-at number 2 (length d / 2) d j 0 h ∙ rw (two-from d (2 * j) (omega arith)))
 
   -- past the end there is none
   pub value-out : length d / 2 ≤ j → 0 ≡ getD (words d) j 0

@@ -1,10 +1,10 @@
 -- Tests and choices taken apart. Assumes nothing.
-use Prim.Native.Nat.{ℕ, suc, _≤_}
+use Prim.Native.Nat.{ℕ, suc, _≤_, _<_}
 use native.Mathlib.Omega.{arith}
 use lib.Dec.{eqb, leb, ltb, leb·zero}
-use borrow.Author.Tests.{eqb-true, leb-true, leb-false, le-leb, le-ltb, lt-ltb}
-use mathlib.Core.Path.{_≡_, refl, sym}
-use mathlib.Core.Bool.{Bool, true, false, cond, not, _&&_, _||_}
+use borrow.Author.Tests.{eqb-true, leb-true, leb-false, le-leb, le-ltb, lt-ltb, not-true, not-false}
+use mathlib.Core.Path.{_≡_, refl, sym, _∙_}
+use mathlib.Core.Bool.{Bool, true, false, cond, not, _&&_, _||_, and-true}
 use mathlib.Core.List.{List, [], _∷_}
 use Rattle.lists.specs.Tests.{within, all}
 
@@ -21,6 +21,23 @@ cond-eq P n k a b f g = cond-case P (eqb n k) a b (λ e. f (eqb-true n k e)) (λ
 pub passed : (b : Bool) (n r : ℕ) → cond b (suc n) r ≡ 0 → (b ≡ false) × (r ≡ 0)
 passed true n r h = absurd (omega arith)
 passed false n r h = (refl, h)
+
+-- a test as a choice
+pub one-of-one : (b : Bool) → cond b true false ≡ b
+one-of-one true = refl
+one-of-one false = refl
+
+-- two conditions of one number
+pub either : (a b : Bool) (n r : ℕ) → cond b n (cond a n r) ≡ cond (a || b) n r
+either true true n r = refl
+either true false n r = refl
+either false true n r = refl
+either false false n r = refl
+
+-- what is judged later may take for granted that an earlier condition does not hold
+pub later : (b : Bool) (n x y : ℕ) → (b ≡ false → x ≡ y) → cond b n x ≡ cond b n y
+later true n x y e = refl
+later false n x y e = e refl
 
 pub and-left : (a b : Bool) → (a && b) ≡ true → a ≡ true
 and-left true b h = refl
@@ -80,6 +97,27 @@ module _ (low high x : ℕ) where
       go true true p q = absurd (h (leb-true low x p) (leb-true x high q))
       go true false p q = refl
       go false b p q = refl
+
+-- by a test at each end
+module _ (low high x : ℕ) where
+  pub ends-within : (ltb x low || ltb high x) ≡ not (within low high x)
+  unfolding within
+  ends-within = rw (below x low, below high x) (sym (not-and (leb low x) (leb x high)))
+
+  pub ends-outside : (ltb x low || ltb high x) ≡ true → within low high x ≡ false
+  ends-outside e = not-true _ (sym ends-within ∙ e)
+
+  pub ends-inside : (ltb x low || ltb high x) ≡ false → within low high x ≡ true
+  ends-inside e = not-false _ (sym ends-within ∙ e)
+
+-- a byte is at most 255
+pub byte-within : (t : ℕ) → t < 256 → leb 1 t ≡ within 1 255 t
+unfolding within
+byte-within t h = rw (le-leb t 255 (omega arith)) (sym (and-true (leb 1 t)))
+
+-- so it is from 1 to 255 unless it is 0
+pub byte-some : (b : ℕ) → b < 256 → not (within 1 255 b) ≡ ltb b 1
+byte-some b h = rw (← byte-within b h) (sym (below b 1))
 
 -- of a list that passes whole, its first and its rest
 module _ {A : Type 0} (f : A → Bool) (x : A) (xs : List A) (h : all f (x ∷ xs) ≡ true) where

@@ -1,20 +1,32 @@
 -- Laws of reply data and of lent buffers. Assumes nothing.
-use mathlib.Core.Path.{_≡_, sym, ap, _∙_}
-use mathlib.Core.List.{List, [], _∷_, _++_, append-assoc, append-nil, map}
+use mathlib.Core.Path.{_≡_, sym, ap, _∙_, refl}
+use mathlib.Core.List.{List, [], _∷_, _++_, append-assoc, append-nil, map, flatMap}
 use Prim.Native.Nat.{ℕ, suc, _+_, _-_, _<_, _≤_}
 use native.Mathlib.Numerals.{add-one}
 use native.Mathlib.Omega.{arith}
 use borrow.Author.Tests.{lt-ltb}
-use lib.ListN.{length, set, take, drop, getD, length-append, length-drop, drop-of-length-le, length-map}
+use lib.ListN.{length, set, take, drop, getD, length-append, length-drop, drop-of-length-le, length-map, replicate, length-replicate, replicate-append-replicate}
 use lib.Seq.{set-append-seam, append-snoc, take-suc, set-at, getD-take, drop-cons, length-take-le, take-append-seam, getD-append-add, getD-drop}
 use Rattle.lists.specs.Data.{dataOf, pushed, extended, bytesIn, filled, padded, over}
 use Rattle.lists.specs.declared.Data.{Data}
+use Rattle.lists.specs.Numbers.{bytes}
+use mathlib.Core.Bool.{Bool, true, false, cond}
+use Rattle.lists.proofs.ChunkLaws.{rest-first}
 
 -- a store behind the last element that counts
 pub filled-push : {A : Type 0} (n : ℕ) (d : A) (l : List A) (b : A) → length l < n → set (filled n d l) (length l) b ≡ filled n d (l ++ b ∷ [])
 filled-push n d l b h =
     let more : n - length l ≡ suc (n - (length l + 1)) = omega arith in
     rw (more, set-append-seam, length-append, append-snoc)
+
+pub filled-length : {A : Type 0} (n : ℕ) (d : A) (l : List A) → length l ≤ n → length (filled n d l) ≡ n
+filled-length n d l h = simp (length-append, length-replicate) (omega arith)
+
+-- the same elements in more room
+pub filled-more : {A : Type 0} (v w : ℕ) (d : A) (l : List A) → length l ≤ v → v ≤ w → filled v d l ++ replicate (w - v) d ≡ filled w d l
+filled-more v w d l h k =
+    let all : v - length l + (w - v) ≡ w - length l = omega arith in
+    append-assoc l _ _ ∙ rw (replicate-append-replicate (v - length l) (w - v) d, all)
 
 pub padded-push : (l : List ℕ) (b : ℕ) → length l < 256 → set (padded l) (length l) b ≡ padded (l ++ b ∷ [])
 unfolding padded
@@ -32,6 +44,42 @@ extend-law (x ∷ xs) l h =
     ap (λ (d : Data). extended d xs) (push-law l x (omega arith))
     ∙ extend-law xs (l ++ x ∷ []) (simp length-append (omega arith))
     ∙ ap dataOf (append-assoc l (x ∷ []) xs)
+
+-- short data, byte by byte
+pub two-pushed : (a b : ℕ) → pushed (pushed (dataOf []) a) b ≡ dataOf (a ∷ b ∷ [])
+two-pushed a b = ap (λ (d : Data). pushed d b) (push-law [] a (omega arith)) ∙ push-law (a ∷ []) b (omega arith)
+
+-- four bytes, one after another
+pub four-pushed : (a b c d : ℕ) → pushed (pushed (pushed (pushed (dataOf []) a) b) c) d ≡ dataOf (a ∷ b ∷ c ∷ d ∷ [])
+four-pushed a b c d =
+    rw (push-law [] a (omega arith), push-law (a ∷ []) b (omega arith), push-law (a ∷ b ∷ []) c (omega arith), push-law (a ∷ b ∷ c ∷ []) d (omega arith))
+
+pub byte-and-word : (a v : ℕ) → extended (pushed (dataOf []) a) (bytes 2 v) ≡ dataOf (a ∷ bytes 2 v)
+unfolding bytes
+byte-and-word a v = ap (λ (d : Data). extended d (bytes 2 v)) (push-law [] a (omega arith)) ∙ extend-law (bytes 2 v) (a ∷ []) (omega arith)
+
+-- bytes after bytes, in two parts
+pub extended-append : (xs ys : List ℕ) (b : Data) → extended b (xs ++ ys) ≡ extended (extended b xs) ys
+unfolding extended
+extended-append [] ys b = refl
+extended-append (x ∷ xs) ys b = extended-append xs ys (pushed b x)
+
+-- A loop that puts `show n` after the reply for each n of ns in turn: what is still to come is left.
+module _ (show : ℕ → List ℕ) (ns : List ℕ) (i : ℕ) (b : Data) where
+  -- one turn
+  pub shown-turn : i < length ns → extended (extended b (show (getD ns i 0))) (flatMap show (drop (i + 1) ns)) ≡ extended b (flatMap show (drop i ns))
+  unfolding flatMap
+  shown-turn h = rw (rest-first ns i h) (sym (extended-append (show (getD ns i 0)) (flatMap show (drop (i + 1) ns)) b))
+
+  -- its end
+  pub shown-end : length ns ≤ i → extended b (flatMap show (drop i ns)) ≡ b
+  unfolding flatMap extended
+  shown-end h = rw (drop-of-length-le ns {i = i} h)
+
+-- one of two replies
+pub both : (b : Bool) (x y : List ℕ) → cond b (dataOf x) (dataOf y) ≡ dataOf (cond b x y)
+both true x y = refl
+both false x y = refl
 
 pub bytes-in : (l : List ℕ) → bytesIn (dataOf l) ≡ l
 unfolding padded

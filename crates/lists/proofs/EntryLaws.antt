@@ -9,7 +9,6 @@ use lib.ListN.{length, getD, take, drop, length-append, length-map}
 use lib.Seq.{take-all, take-at, take-append-seam, drop-drop}
 use borrow.Author.Tests.{lt-ltb, le-ltb}
 use Rattle.lists.specs.declared.Entry.{Entry}
-use Rattle.lists.specs.declared.Entries.{Entries}
 use Rattle.lists.specs.Chunks.{chunks, chunksOf}
 use Rattle.lists.specs.Entries.{entry, entryOf, entries, numbered, entriesOf, entriesIn, entryAdded}
 use Rattle.lists.proofs.DataLaws.{filled-push}

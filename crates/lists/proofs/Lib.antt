@@ -2,6 +2,7 @@ pub mod Choices
 pub mod Done
 pub mod Walks
 pub mod ChunkLaws
+pub mod Parts
 pub mod NumberLaws
 pub mod Bits
 pub mod DataLaws

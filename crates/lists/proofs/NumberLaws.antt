@@ -1,7 +1,7 @@
 -- Numbers and their bytes, for any width. Assumes nothing.
-use Prim.Native.Nat.{ℕ, zero, suc, _+_, _*_, _/_, _%_, _^_, _<_}
+use Prim.Native.Nat.{ℕ, zero, suc, _+_, _*_, _/_, _%_, _^_, _<_, _≤_}
 use native.Mathlib.Omega.{arith}
-use native.Mathlib.Nat.{mul-add-mod-self-left, mod-eq-of-lt, mod-lt, div-add-mod, pow-suc}
+use native.Mathlib.Nat.{mul-add-mod-self-left, mod-eq-of-lt, mod-lt, div-add-mod, pow-suc, mod-le, div-le-self, le-trans}
 use mathlib.Core.Path.{_≡_, refl, sym, ap, _∙_}
 use mathlib.Core.List.{List, [], _∷_, _++_}
 use lib.ListN.{length, length-append}
@@ -39,3 +39,7 @@ number-bytes zero n = omega arith
 number-bytes (suc w) n =
     number-snoc (bytes w (n / 256)) (n % 256)
     ∙ rw (number-bytes w (n / 256), pow-suc 256 w) (remainder n (256 ^ w) (power-positive w))
+
+-- a part of a number is no larger
+pub part-small : (bits k n : ℕ) → bits / 2 ^ k % 2 ^ n ≤ bits
+part-small bits k n = le-trans (mod-le (bits / 2 ^ k) (2 ^ n)) (div-le-self bits (2 ^ k))

@@ -3,11 +3,9 @@ use Prim.Native.Nat.{ℕ, _≤_}
 use native.Mathlib.Omega.{arith}
 use mathlib.Core.Path.{_≡_, refl, ap, _∙_}
 use mathlib.Core.Bool.{Bool, false}
-use mathlib.Core.List.{List, [], _∷_}
+use mathlib.Core.List.{List}
 use lib.ListN.{length, take}
 use borrow.Author.Tests.{ne-eqb}
-use Rattle.lists.specs.Data.{dataOf, pushed}
-use Rattle.lists.proofs.DataLaws.{push-law}
 use Rattle.lists.proofs.ChunkLaws.{piece}
 use Rattle.model.specs.declared.Module.{Module}
 use Rattle.model.specs.Refusals.{Request, refuse, judged}
@@ -27,11 +25,6 @@ echo-law m q b =
 pub written-law : (m : Module) (q : Request Module) (l b : List ℕ) (wrong : Bool) (s : Served)
     → l ≡ b → s ≡ servedOf (judged m q) → wrong ≡ false → echoed l s ≡ servedOf (judged m (refuse 8 wrong (answering b q)))
 written-law m q l b wrong s f e h = ap (λ (x : List ℕ). echoed x s) f ∙ ap (echoed b) e ∙ echo-law m q b ∙ passed-8 m (answering b q) wrong h
-
--- four bytes, one after another
-pub four-pushed : (a b c d : ℕ) → pushed (pushed (pushed (pushed (dataOf []) a) b) c) d ≡ dataOf (a ∷ b ∷ c ∷ d ∷ [])
-four-pushed a b c d =
-    rw (push-law [] a (omega arith), push-law (a ∷ []) b (omega arith), push-law (a ∷ b ∷ []) c (omega arith), push-law (a ∷ b ∷ c ∷ []) d (omega arith))
 
 -- a body that has them
 pub head-law : (b : List ℕ) → 4 ≤ length b → headOf b ≡ take 4 b

@@ -2,17 +2,12 @@
 use Prim.Native.Nat.{ℕ, zero, suc, _+_, _<_, _≤_}
 use native.Mathlib.Omega.{arith}
 use native.Mathlib.Nat.{not-suc-le-zero, le-of-suc-le-suc}
-use mathlib.Core.Path.{_≡_, refl, sym, _∙_}
-use mathlib.Core.Bool.{Bool, true, false, cond, not, and-true}
-use mathlib.Core.List.{List, [], _∷_, _++_, flatMap}
-use lib.Dec.{leb, ltb}
-use lib.ListN.{length, getD, drop, drop-of-length-le}
-use borrow.Author.Tests.{le-leb}
-use Rattle.lists.proofs.ChunkLaws.{rest-first}
-use Rattle.lists.specs.Tests.{within, all}
-use Rattle.lists.proofs.Choices.{below}
-use Rattle.lists.specs.Data.{dataOf, extended, pushed}
-use Rattle.lists.specs.declared.Data.{Data}
+use mathlib.Core.Path.{_≡_, refl, _∙_}
+use mathlib.Core.Bool.{Bool, true, false, cond, not}
+use mathlib.Core.List.{List, [], _∷_, flatMap}
+use lib.ListN.{length, getD}
+use Rattle.lists.specs.Tests.{all}
+use Rattle.lists.specs.Data.{dataOf, extended}
 use Rattle.lists.proofs.DataLaws.{extend-law}
 use Rattle.model.specs.Refusals.{judged, refuse, telling}
 use Rattle.model.specs.Counters.{isNumber, itemsOf, everyNumber, listed, listRead}
@@ -25,11 +20,6 @@ use Rattle.number_lists.specs.Items.{itemsIn, asksAll, listRefusal}
 pub items-length : (w : ℕ) (d : List ℕ) → itemsOf w d ≡ itemsIn w (length d)
 unfolding itemsOf itemsIn
 items-length w d = refl
-
--- a byte is from 1 to 255 unless it is 0
-pub byte-some : (b : ℕ) → b < 256 → not (within 1 255 b) ≡ ltb b 1
-unfolding within
-byte-some b h = rw (le-leb b 255 (omega arith), and-true (leb 1 b)) (sym (below b 1))
 
 -- the numbers that a list names
 pub listed-all : (d : List ℕ) → asksAll d ≡ true → listed d ≡ everyNumber
@@ -54,24 +44,6 @@ getD-upFrom n (suc k) (suc i) h = getD-upFrom (n + 1) k i (le-of-suc-le-suc h) �
 pub number-place : (i : ℕ) → i < 16 → getD everyNumber i 0 ≡ i + 1
 unfolding upFrom
 number-place i h = getD-upFrom 1 16 i h ∙ omega arith
-
--- bytes after bytes, in two parts
-pub extended-append : (xs ys : List ℕ) (b : Data) → extended b (xs ++ ys) ≡ extended (extended b xs) ys
-unfolding extended
-extended-append [] ys b = refl
-extended-append (x ∷ xs) ys b = extended-append xs ys (pushed b x)
-
--- A loop that puts `show n` after the reply for each n of ns in turn: what is still to come is left.
-module _ (show : ℕ → List ℕ) (ns : List ℕ) (i : ℕ) (b : Data) where
-  -- one turn
-  pub shown-turn : i < length ns → extended (extended b (show (getD ns i 0))) (flatMap show (drop (i + 1) ns)) ≡ extended b (flatMap show (drop i ns))
-  unfolding flatMap
-  shown-turn h = rw (rest-first ns i h) (sym (extended-append (show (getD ns i 0)) (flatMap show (drop (i + 1) ns)) b))
-
-  -- its end
-  pub shown-end : length ns ≤ i → extended b (flatMap show (drop i ns)) ≡ b
-  unfolding flatMap extended
-  shown-end h = rw (drop-of-length-le ns {i = i} h)
 
 -- Of a list that is allowed, pieces of at most 16 bytes each fit into a reply, so the loop from an empty one builds its data.
 pub shown-data : (show : ℕ → List ℕ) (d : List ℕ)

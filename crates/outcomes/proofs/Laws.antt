@@ -63,11 +63,6 @@ module _ {E : Type 0} (m : Module) (q : List E → Request Module) (n : ℕ) (re
 pub told-law : (m : Module) (q : Request (Unit {0})) → toldAbout m (toldOf q) ≡ servedOf (judged m (reading m q))
 told-law m q = sym (ap servedOf (judged-part (λ _. m) tt q))
 
--- one of two replies
-pub both : (b : Bool) (x y : List ℕ) → cond b (dataOf x) (dataOf y) ≡ dataOf (cond b x y)
-both true x y = refl
-both false x y = refl
-
 -- a frame that fails a check
 pub refused-law : (n : ℕ) (m : Module) (o : Out) → (n ≡ 0 → ⊥) → silent n m ≡ ifPasses n m o
 refused-law zero m o h = absurd (h refl)

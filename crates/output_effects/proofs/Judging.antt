@@ -1,17 +1,16 @@
 -- Conditions that are judged one after another. Assumes nothing.
-use Prim.Native.Nat.{ℕ, _%_, _<_}
+use Prim.Native.Nat.{ℕ, _%_}
 use native.Mathlib.Omega.{arith}
 use native.Mathlib.Nat.{mod-eq-of-lt}
-use mathlib.Core.Path.{_≡_, refl, sym, ap, _∙_}
-use mathlib.Core.Bool.{Bool, true, false, cond, not, _||_, and-true}
+use mathlib.Core.Path.{_≡_, refl, ap, _∙_}
+use mathlib.Core.Bool.{Bool, true, cond, not, _||_}
 use mathlib.Core.List.{List, [], _∷_, map}
-use lib.Dec.{leb}
 use lib.ListN.{take}
-use borrow.Author.Tests.{le-leb, not-false}
-use Rattle.lists.specs.Tests.{within, all}
+use borrow.Author.Tests.{not-false}
+use Rattle.lists.specs.Tests.{all}
 use Rattle.lists.specs.declared.Entry.{Entry}
 use Rattle.lists.specs.Entries.{entriesOf, entriesIn}
-use Rattle.lists.proofs.Choices.{and-left, within-high, all-first, all-rest}
+use Rattle.lists.proofs.Choices.{and-left, within-high, all-first, all-rest, either, later}
 use Rattle.model.specs.declared.Preset.{Preset}
 use Rattle.model.specs.declared.Reading.{Reading}
 use Rattle.model.specs.declared.Thermostat.{Thermostat}
@@ -21,27 +20,10 @@ use Rattle.model.specs.Temperature.{freeAt}
 use Rattle.model.specs.Outputs.{setByte, presetReady}
 use Rattle.entries.proofs.Entries.{sets-whole}
 
--- a byte is at most 255
-pub byte-within : (t : ℕ) → t < 256 → leb 1 t ≡ within 1 255 t
-unfolding within
-byte-within t h = rw (le-leb t 255 (omega arith)) (sym (and-true (leb 1 t)))
-
--- two conditions of one number
-either : (a b : Bool) (n r : ℕ) → cond b n (cond a n r) ≡ cond (a || b) n r
-either true true n r = refl
-either true false n r = refl
-either false true n r = refl
-either false false n r = refl
-
 -- a request refused by 11 for one reason more, where no condition that is looked at before it can hold; r is what those after it give
 pub also-11 : {P : Type 0} (q : Request P) (b : Bool) (r : ℕ) → refusalOf q ≡ cond (q .holds 11) 11 r → refusalOf (refuse 11 b q) ≡ cond (q .holds 11 || b) 11 r
     → cond b 11 (refusalOf q) ≡ refusalOf (refuse 11 b q)
 also-11 q b r without with = rw (without, with) (either (q .holds 11) b 11 r)
-
--- what is judged later may take for granted that an earlier condition does not hold
-later : (b : Bool) (n x y : ℕ) → (b ≡ false → x ≡ y) → cond b n x ≡ cond b n y
-later true n x y e = refl
-later false n x y e = e refl
 
 -- presets that are ready: a number that fits is its set byte's
 ready-number : (ps : List Preset) (n : ℕ) → presetReady ps n ≡ true → n % 128 ≡ n

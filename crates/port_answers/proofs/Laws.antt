@@ -16,8 +16,8 @@ use Rattle.model.specs.Spinel.{spinelWire}
 use Rattle.model.specs.Modbus.{modbusWire}
 use Rattle.outcomes.specs.declared.Served.{Served}
 use Rattle.outcomes.specs.Parts.{servedOf, handledOf}
-use Rattle.outcomes.proofs.Laws.{both}
 use Rattle.port_answers.specs.Answers.{unlessAll, spinelAnswered, modbusAnswered}
+use Rattle.lists.proofs.DataLaws.{both}
 
 -- on any wire, from the reply's bytes by value
 wire-answered : (w : Wire) (own : ℕ) (f : List ℕ) (o : Done Module) (reply : Data) → reply ≡ dataOf (w .replied own f o)

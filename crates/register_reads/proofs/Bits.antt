@@ -1,28 +1,22 @@
 -- Coils and inputs: parts of a number's bits, and the bytes that show them. Assumes nothing.
-use Prim.Native.Nat.{ℕ, zero, suc, _+_, _*_, _/_, _%_, _^_, _<_, _≤_}
+use Prim.Native.Nat.{ℕ, _+_, _/_, _%_, _<_, _≤_}
 use native.Mathlib.Omega.{arith}
-use native.Mathlib.Nat.{pow-suc, pow-succ', mod-lt, mod-le, mod-one, mod-eq-of-lt, zero-mod, zero-div, div-one, div-le-self, div-add-mod, div-div-eq-div-mul, mul-add-mod-self-left, le-trans}
-use mathlib.Core.Path.{_≡_, refl, sym, ap, _∙_}
-use mathlib.Core.Bool.{Bool, true, false, cond}
-use mathlib.Core.List.{List, [], _∷_, map}
+use native.Mathlib.Nat.{mod-eq-of-lt}
+use mathlib.Core.Path.{_≡_, refl, ap, _∙_}
+use mathlib.Core.Bool.{Bool, true, false}
+use mathlib.Core.List.{List, [], _∷_}
 use lib.ListN.{length, take, drop, length-drop}
 use lib.Seq.{length-take-le}
-use lib.Pow.{pow-pos}
 use Rattle.lists.specs.Data.{dataOf, pushed}
 use Rattle.lists.specs.declared.Data.{Data}
 use Rattle.lists.specs.Numbers.{bitsNumber}
-use Rattle.lists.specs.Chunks.{chunksOf}
 use Rattle.lists.proofs.DataLaws.{push-law}
-use Rattle.lists.proofs.Bits.{bit-most}
+use Rattle.lists.proofs.Bits.{bits-drop, bits-take, bytes-of}
 use Rattle.model.specs.Refusals.{judged, refuse, telling}
 use Rattle.model.specs.Registers.{bitGroup, outside, packed, readBits}
 use Rattle.encoding.specs.Answers.{toldOf}
 use Rattle.groups.proofs.Inside.{inside}
 use Rattle.register_reads.specs.Answers.{partOf, bitsShown, bitsTold}
-
--- a part of a number is no larger
-pub part-small : (bits k n : ℕ) → bits / 2 ^ k % 2 ^ n ≤ bits
-part-small bits k n = le-trans (mod-le (bits / 2 ^ k) (2 ^ n)) (div-le-self bits (2 ^ k))
 
 -- The count and the bytes, byte by byte.
 module _ (v n : ℕ) where
@@ -41,39 +35,6 @@ module _ (v n : ℕ) where
       ap (λ (d : Data). pushed (pushed d (v % 256)) (v / 256)) (push-law [] 2 (omega arith))
       ∙ ap (λ (d : Data). pushed d (v / 256)) (push-law (2 ∷ []) (v % 256) (omega arith))
       ∙ push-law (2 ∷ v % 256 ∷ []) (v / 256) (omega arith))
-
--- Bits of a list and of its number --------------------------------------------------------
-
--- without the first k
-bits-drop : (k : ℕ) (bs : List Bool) → bitsNumber (drop k bs) ≡ bitsNumber bs / 2 ^ k
-unfolding bitsNumber
-bits-drop zero bs = sym (div-one (bitsNumber bs))
-bits-drop (suc k) [] = sym (zero-div (2 ^ suc k))
-bits-drop (suc k) (b ∷ bs) =
-    let half : (cond b 1 0 + 2 * bitsNumber bs) / 2 ≡ bitsNumber bs = omega (arith, bit-most b) in
-    bits-drop k bs ∙ sym (rw (pow-succ' 2 k, ← div-div-eq-div-mul (cond b 1 0 + 2 * bitsNumber bs) 2 (2 ^ k), half))
-
--- one bit more below
-one-more : (c m p : ℕ) → c ≤ 1 → 0 < p → c + 2 * (m % p) ≡ (c + 2 * m) % (p * 2)
-one-more c m p h l =
-    let whole : c + 2 * m ≡ p * 2 * (m / p) + (c + 2 * (m % p)) = omega (arith, div-add-mod m p) in
-    let less : c + 2 * (m % p) < p * 2 = omega (arith, mod-lt m l) in
-    sym (ap (_% (p * 2)) whole ∙ mul-add-mod-self-left (p * 2) (m / p) (c + 2 * (m % p)) ∙ mod-eq-of-lt less)
-
--- the first n
-bits-take : (n : ℕ) (bs : List Bool) → bitsNumber (take n bs) ≡ bitsNumber bs % 2 ^ n
-unfolding bitsNumber
-bits-take zero bs = sym (mod-one (bitsNumber bs))
-bits-take (suc n) [] = sym (zero-mod (2 ^ suc n))
-bits-take (suc n) (b ∷ bs) = rw (bits-take n bs, pow-suc 2 n) (one-more (cond b 1 0) (bitsNumber bs) (2 ^ n) (bit-most b) (pow-pos n))
-
--- as bytes: none, one or two
-bytes-of : (c : ℕ) (bs : List Bool) → c ≤ 2 → map bitsNumber (chunksOf 8 c bs) ≡ take c (bitsNumber bs % 256 ∷ bitsNumber bs / 256 % 256 ∷ [])
-unfolding chunksOf
-bytes-of zero bs h = refl
-bytes-of (suc zero) bs h = rw (bits-take 8 bs)
-bytes-of (suc (suc zero)) bs h = rw (bits-take 8 bs, bits-take 8 (drop 8 bs), bits-drop 8 bs)
-bytes-of (suc (suc (suc c))) bs h = absurd (let z : ⊥ = omega arith in z)
 
 -- n of sixteen from place k on
 shown-packed : (bs : List Bool) (k n : ℕ) → length bs ≡ 16 → k + n ≤ 16 → bitsShown (partOf (bitsNumber bs) k n) n ≡ (n + 7) / 8 ∷ packed (take n (drop k bs))

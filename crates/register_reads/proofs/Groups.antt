@@ -1,12 +1,11 @@
 -- Words of a group: a part of a list, and where a group begins. Assumes nothing.
-use Prim.Native.Nat.{ℕ, zero, suc, _+_, _-_, _*_, _<_, _≤_}
+use Prim.Native.Nat.{ℕ, _+_, _-_, _*_, _≤_}
 use native.Mathlib.Omega.{arith}
 use native.Mathlib.Nat.{le-of-eq}
-use mathlib.Core.Path.{_≡_, refl, sym, ap, _∙_}
+use mathlib.Core.Path.{_≡_, refl, ap, _∙_}
 use mathlib.Core.Bool.{Bool, true, false}
 use mathlib.Core.List.{List, [], _∷_, _++_, map, flatMap}
-use lib.ListN.{length, getD, take, drop, length-drop, List·getD-map}
-use lib.Seq.{getD-take, getD-drop, length-take-le}
+use lib.ListN.{length, getD, take, drop, List·getD-map}
 use Rattle.lists.specs.Data.{dataOf, extended, pushed}
 use Rattle.lists.specs.declared.Data.{Data}
 use Rattle.lists.specs.Numbers.{bytes}
@@ -25,14 +24,7 @@ use Rattle.model.proofs.Short.{flat-most}
 use Rattle.encoding.specs.declared.Told.{Told}
 use Rattle.encoding.specs.Answers.{toldOf}
 use Rattle.groups.proofs.Inside.{inside}
-
--- n of some words from place k on
-module _ (ws : List ℕ) (k n : ℕ) (fits : k + n ≤ length ws) where
-  pub part-length : length (take n (drop k ws)) ≡ n
-  part-length = length-take-le n (drop k ws) (simp length-drop (omega arith))
-
-  pub part-word : (i : ℕ) → i < n → getD ws (k + i) 0 ≡ getD (take n (drop k ws)) i 0
-  part-word i h = sym (getD-take n (drop k ws) i 0 h ∙ getD-drop k ws i 0)
+use Rattle.lists.proofs.Parts.{part-first}
 
 -- a byte count and at most sixteen words fit a reply
 pub words-data : (b : ℕ) (ws : List ℕ) → length ws ≤ 16 → extended (pushed (dataOf []) b) (flatMap (bytes 2) ws) ≡ dataOf (b ∷ flatMap (bytes 2) ws)
@@ -44,15 +36,6 @@ words-data b ws h =
 pub word-of : (os : List Output) (i : ℕ) → getD (map outputWord os) i 0 ≡ outputWord (getD os i freshOutput)
 unfolding outputWord remaining
 word-of os i = List·getD-map outputWord os i freshOutput
-
--- a part that ends before the second list begins
-part-first : (xs ys : List ℕ) (k n : ℕ) → k + n ≤ length xs → take n (drop k (xs ++ ys)) ≡ take n (drop k xs)
-part-first [] ys zero zero h = refl
-part-first [] ys zero (suc n) h = absurd (let z : ⊥ = omega arith in z)
-part-first [] ys (suc k) n h = absurd (let z : ⊥ = omega arith in z)
-part-first (x ∷ xs) ys zero zero h = refl
-part-first (x ∷ xs) ys zero (suc n) h = ap (x ∷_) (part-first xs ys zero n (omega arith))
-part-first (x ∷ xs) ys (suc k) n h = part-first xs ys k n (omega arith)
 
 -- a group whose words are the first of two lists shows none of the second
 pub first-told : (g : Group) (xs ys : List ℕ) (a n : ℕ) → g .count ≤ length xs → toldOf (readWords g (xs ++ ys) a n) ≡ toldOf (readWords g xs a n)

@@ -2,7 +2,6 @@
 use Prim.Native.Nat.{ℕ, _+_, _/_, _%_, _^_}
 use mathlib.Core.List.{List, [], _∷_, _++_}
 use lib.ListN.{take, replicate}
-use Rattle.lists.specs.Numbers.{bytes}
 use Rattle.model.specs.declared.Thermostat.{Thermostat}
 use Rattle.model.specs.declared.Reading.{Reading}
 use Rattle.model.specs.Refusals.{refuse, telling}

@@ -1,17 +1,18 @@
 -- Stores into one array make the definition's reply. Assumes nothing.
-use Prim.Native.Nat.{ℕ, zero, suc, _+_, _-_, _/_, _%_, _≤_, min}
+use Prim.Native.Nat.{ℕ, _+_, _-_, _/_, _%_, _≤_, min}
 use native.Mathlib.Omega.{arith}
-use native.Mathlib.Nat.{zero-min, min-zero, suc-min-suc, min-le-right}
+use native.Mathlib.Nat.{min-le-right}
 use mathlib.Core.Path.{_≡_, refl, sym, ap, _∙_}
 use mathlib.Core.List.{List, [], _∷_, _++_, append-assoc}
-use lib.ListN.{length, set, take, drop, replicate, length-append, length-replicate, replicate-append-replicate}
-use lib.Seq.{paste, take-at, drop-at, drop-append-add, length-take-le, take-all}
+use lib.ListN.{length, set, take, drop, replicate, length-append}
+use lib.Seq.{paste, take-at, drop-append-add, length-take-le, take-all}
 use Rattle.lists.specs.Data.{padded, dataOf, bytesIn}
 use Rattle.lists.specs.Numbers.{bytes}
 use Rattle.lists.specs.declared.Data.{Data}
 use Rattle.lists.proofs.DataLaws.{padded-push, bytes-in}
 use Rattle.model.specs.Frames.{sumOf, closed, spinelReply, crcOf, withCrc, modbusReply}
 use Rattle.replies.specs.Replies.{spinelHead, modbusHead, spinelReplied, modbusReplied}
+use Rattle.lists.proofs.Parts.{cut-law, drop-zeros}
 
 -- Arrays ---------------------------------------------------------------------------------
 
@@ -25,9 +26,6 @@ two-law l k a b e h =
     let then : set (padded (l ++ a ∷ [])) (k + 1) b ≡ padded ((l ++ a ∷ []) ++ b ∷ []) = rw (← more) (padded-push (l ++ a ∷ []) b (omega arith)) in
     rw (first, then, long, all)
 
-zeros-law : (n m : ℕ) → drop {A = ℕ} n (replicate (n + m) 0) ≡ replicate m 0
-zeros-law n m = rw (← replicate-append-replicate {A = ℕ} n m 0) (drop-at {A = ℕ} (replicate n 0) (replicate m 0) n (length-replicate {A = ℕ} n 0))
-
 -- an array with n bytes of xs stored behind a head of k bytes, then two bytes made from all of these
 module _ (head xs : List ℕ) (k n : ℕ) (e : length head ≡ k) (has : n ≤ length xs) (fits : k + n ≤ 254) where
   all-long : length (head ++ take n xs) ≡ k + n
@@ -37,9 +35,9 @@ module _ (head xs : List ℕ) (k n : ℕ) (e : length head ≡ k) (has : n ≤ l
   unfolding padded
   placed-law =
       let m : ℕ = 256 - length (head ++ take n xs) in
-      let left : 256 - length head ≡ n + m = omega (arith, all-long) in
+      let left : 256 - length head - n ≡ m = omega (arith, all-long) in
       let rest : drop (k + n) (head ++ replicate (256 - length head) 0) ≡ replicate m 0 =
-      rw (← e, drop-append-add head (replicate (256 - length head) 0) n, left) (zeros-law n m)
+      rw (← e, drop-append-add head (replicate (256 - length head) 0) n, drop-zeros n (256 - length head), left)
       in
       rw (take-at head (replicate (256 - length head) 0) k e, rest)
 
@@ -51,13 +49,6 @@ module _ (head xs : List ℕ) (k n : ℕ) (e : length head ≡ k) (has : n ≤ l
       rw (placed-law, shown) (two-law (head ++ take n xs) (k + n) (a (head ++ take n xs)) (b (head ++ take n xs)) all-long fits)
 
 -- Replies --------------------------------------------------------------------------------
-
-cut-law : (n m : ℕ) (l : List ℕ) → take m (take n l) ≡ take (min n m) l
-cut-law zero zero l = refl
-cut-law zero (suc m) l = rw zero-min
-cut-law (suc n) zero l = rw min-zero
-cut-law (suc n) (suc m) [] = rw suc-min-suc
-cut-law (suc n) (suc m) (x ∷ l) = rw (suc-min-suc, cut-law n m l)
 
 -- the first bytes that data hold
 module _ (d : Data) (n most : ℕ) (full : length (d .bytes) ≡ 256) (e : n ≡ min (d .len) most) where

@@ -1,19 +1,17 @@
 -- Laws of the loops that store an answer's characters. Assumes nothing.
-use Prim.Native.Nat.{ℕ, _+_, _/_, _%_, _<_, _≤_, min}
+use Prim.Native.Nat.{ℕ, _+_, _/_, _%_, _<_, _≤_}
 use native.Mathlib.Numerals.{add-one}
 use native.Mathlib.Omega.{arith}
-use mathlib.Core.Path.{_≡_, refl, sym, ap}
+use mathlib.Core.Path.{_≡_, sym, ap}
 use mathlib.Core.List.{List, [], _∷_, _++_, append-assoc, append-nil}
 use lib.ListN.{length, take, drop, getD, set, replicate, length-append}
-use lib.Dec.{ltb}
-use lib.Seq.{take-all, take-length, take-suc}
-use borrow.Author.Tests.{ltb-true, ltb-false}
-use mathlib.Core.Bool.{Bool, true, false}
+use lib.Seq.{take-all, take-suc}
 use Rattle.digits.specs.declared.Numeral.{Numeral}
 use Rattle.digits.specs.Writing.{character, written, hexText, padded, numeralOf}
-use Rattle.digits.proofs.Characters.{length-padded, padded-push, padded-more, drop-zeros}
+use Rattle.digits.proofs.Characters.{length-padded, padded-push, padded-more}
 use Rattle.texts.specs.declared.Text.{Text}
 use Rattle.texts.specs.Texts.{bytesText, textOf}
+use Rattle.lists.proofs.Parts.{drop-zeros}
 
 -- a numeral's characters in a text
 pub copied : (l bytes : List ℕ) (i : ℕ) {number : Numeral} → length l ≤ 20 → number ≡ numeralOf l → i ≡ 20 → bytes ≡ take i (number .bytes) ++ drop i (replicate 772 0) → _≡_ {A = Text} (record { bytes = bytes; len = number .len }) (textOf l)
@@ -45,16 +43,3 @@ bytes-snoc (a ∷ l) b = rw (bytes-snoc l b) (ap (32 ∷_) (sym (append-assoc (h
 
 pub bytes-turn : (head l : List ℕ) (i : ℕ) → i < length l → (head ++ bytesText (take i l)) ++ 32 ∷ hexText (getD l i 0) ≡ head ++ bytesText (take (i + 1) l)
 bytes-turn head l i h = rw (add-one, take-suc l i 0 h, bytes-snoc) (append-assoc head (bytesText (take i l)) (32 ∷ hexText (getD l i 0)))
-
--- the first k, of a list that may have fewer
-pub take-most : (k : ℕ) (l : List ℕ) → take (min (length l) k) l ≡ take k l
-take-most k l = go (ltb (length l) k) refl
-  where
-    go : (t : Bool) → ltb (length l) k ≡ t → take (min (length l) k) l ≡ take k l
-    go true e =
-        let some : length l < k = ltb-true (length l) k e in
-        let whole : min (length l) k ≡ length l = omega arith in
-        rw (whole, take-length, take-all k l (omega arith))
-    go false e =
-        let more : k ≤ length l = ltb-false (length l) k e in
-        rw (let first : min (length l) k ≡ k = omega arith in first)

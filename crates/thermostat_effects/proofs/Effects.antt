@@ -10,7 +10,7 @@ use borrow.Author.Tests.{le-leb, lt-leb, ltb-true, ltb-false}
 use Rattle.lists.specs.Tests.{all, within}
 use Rattle.lists.specs.Chunks.{chunks}
 use Rattle.lists.specs.Numbers.{wordAt}
-use Rattle.lists.proofs.Choices.{or-left, passed}
+use Rattle.lists.proofs.Choices.{or-left, passed, one-of-one}
 use Rattle.model.specs.declared.Thermostat.{Thermostat}
 use Rattle.model.specs.Refusals.{refuse, refusalOf}
 use Rattle.model.specs.Counters.{itemsOf}
@@ -39,10 +39,6 @@ unfolding setSetpoints setThermostats
 groups-request d hs = rw (groups-fit (chunks 8 d), groups-put (chunks 8 d) hs)
 
 -- registers 600 up ---------------------------------------------------------------------------
-
-one-of-one : (b : Bool) → cond b true false ≡ b
-one-of-one true = refl
-one-of-one false = refl
 
 -- the number that refuses a write: 9 for the registers, 11 for flags that are no byte or a setpoint that does not fit
 unfoldable pub writeRefusal : ℕ → List ℕ → ℕ

@@ -6,7 +6,7 @@ use lib.ListN.{length, drop}
 use borrow.Author.Needs.{needs}
 use native.Mathlib.Omega.{arith}
 use Rattle.model.specs.Frames.{crcByte, crcOf}
-use Rattle.checksum.proofs.Laws.{fold-next, fold-end}
+use Rattle.lists.proofs.Loops.{each-goes, each-ends}
 use Rattle.checksum.proofs.crc16.Statement.{statement}
 use Rattle.checksum.proofs.crc16.Tie as tie
 
@@ -23,13 +23,13 @@ loop-holds c = (omega arith, refl)
 loop-again : tie.Need-loop-again Inv-loop μ-loop
 loop-again c =
     let head = c .before .before .before in
-    let next = fold-next crcByte (head .loop .c) (head .before .before .args .s .now) (head .loop .i) (c .before .before .loop-test .taken) in
+    let next = each-goes crcByte (head .loop .c) (head .before .before .args .s .now) refl (head .loop .i) 0 (c .before .before .loop-test .taken) in
     (omega arith, cc)
 
 returns : tie.Need-returns Inv-loop μ-loop
 returns c =
     let head = c .before in
-    let end = fold-end crcByte (head .loop .c) (head .before .before .args .s .now) (head .loop .i) (c .loop-test .left) in
+    let end = each-ends crcByte (head .loop .c) (head .before .before .args .s .now) refl (head .loop .i) (c .loop-test .left) in
     cc
 
 pub crc16-spec : {M : Type 1} → statement M

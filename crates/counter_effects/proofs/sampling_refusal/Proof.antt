@@ -4,7 +4,7 @@ use denote.Ref.{now}
 use lib.ListN.{getD}
 use Rattle.model.specs.Refusals.{refusalOf}
 use Rattle.model.specs.Counters.{setSampling}
-use Rattle.number_lists.proofs.Lists.{byte-some}
+use Rattle.lists.proofs.Choices.{byte-some}
 use Rattle.counter_effects.proofs.sampling_refusal.Statement.{statement}
 use Rattle.counter_effects.proofs.sampling_refusal.Tie as tie
 

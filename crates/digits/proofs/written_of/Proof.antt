@@ -7,7 +7,8 @@ use mathlib.Core.List.{_++_}
 use lib.ListN.{length, drop, replicate}
 use borrow.Author.Needs.{needs}
 use Rattle.digits.specs.Writing.{written, padded}
-use Rattle.digits.proofs.Characters.{stored, drop-zeros, length-written}
+use Rattle.digits.proofs.Characters.{stored, length-written}
+use Rattle.lists.proofs.Parts.{drop-zeros}
 use Rattle.digits.proofs.written_of.Statement.{statement}
 use Rattle.digits.proofs.written_of.Tie as tie
 

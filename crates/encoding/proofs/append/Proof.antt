@@ -9,7 +9,7 @@ use borrow.Author.Tests.{lt-ltb, le-ltb}
 use lib.ListN.{length, take, drop, getD}
 use Rattle.lists.specs.Data.{extended, pushed, bytesIn}
 use Rattle.lists.proofs.DataLaws.{field-length, extend-turn, rest-none}
-use Rattle.encoding.proofs.Limit.{take-limited}
+use Rattle.lists.proofs.Parts.{take-limited}
 use Rattle.encoding.proofs.append.Statement.{statement}
 use Rattle.encoding.proofs.append.Tie as tie
 

@@ -2,16 +2,16 @@
 use borrow.Author.Needs.{needs}
 use borrow.Author.Tests.{eq-eqb, ne-eqb}
 use Rattle.model.specs.Modbus.{countWrong}
+use Rattle.lists.proofs.Choices.{ends-outside, ends-inside}
 use Rattle.modbus_bodies.proofs.count_wrong.Statement.{statement}
 use Rattle.modbus_bodies.proofs.count_wrong.Tie as tie
-use Rattle.modbus_bodies.proofs.Laws.{is-outside, is-inside}
 
 returns : tie.Need-returns
 unfolding countWrong
 returns c =
     let w = c .before in
     let a = w .before .before .args in
-    rw (← w .word-from .ensures, is-outside 1 (a .most) (w .word-from .result) (c .if1 .taken))
+    rw (← w .word-from .ensures, ends-outside 1 (a .most) (w .word-from .result) (c .if1 .taken))
 
 returns-2 : tie.Need-returns-2
 unfolding countWrong
@@ -20,7 +20,7 @@ returns-2 c =
     let e = k .before in
     let w = e .before in
     let a = w .before .before .args in
-    rw (← w .word-from .ensures, is-inside 1 (a .most) (w .word-from .result) (e .if1 .left), ← k .at .ensures, ne-eqb (k .at .result) (a .size) (c .if2 .taken))
+    rw (← w .word-from .ensures, ends-inside 1 (a .most) (w .word-from .result) (e .if1 .left), ← k .at .ensures, ne-eqb (k .at .result) (a .size) (c .if2 .taken))
 
 returns-3 : tie.Need-returns-3
 unfolding countWrong
@@ -29,7 +29,7 @@ returns-3 c =
     let e = k .before in
     let w = e .before in
     let a = w .before .before .args in
-    rw (← w .word-from .ensures, is-inside 1 (a .most) (w .word-from .result) (e .if1 .left), ← k .at .ensures, eq-eqb (k .at .result) (a .size) (c .if2 .left), ← c .if2 .left)
+    rw (← w .word-from .ensures, ends-inside 1 (a .most) (w .word-from .result) (e .if1 .left), ← k .at .ensures, eq-eqb (k .at .result) (a .size) (c .if2 .left), ← c .if2 .left)
 
 pub count-wrong-spec : {M : Type 1} → statement M
 count-wrong-spec =

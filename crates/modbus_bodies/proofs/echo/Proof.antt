@@ -1,8 +1,8 @@
 -- `modbus_bodies::echo` meets its contract. Assumes nothing.
 use borrow.Author.Tests.{ne-eqb}
+use Rattle.lists.proofs.DataLaws.{four-pushed}
 use Rattle.modbus_bodies.proofs.echo.Statement.{statement}
 use Rattle.modbus_bodies.proofs.echo.Tie as tie
-use Rattle.modbus_bodies.proofs.Echoes.{four-pushed}
 
 returns : tie.Need-returns
 returns c = rw (ne-eqb (c .before .before .before .args .s .refusal) 0 (c .if1 .taken))

@@ -1,7 +1,7 @@
 -- `output_effects::is_settable` meets its contract: a byte is at most 255. Assumes nothing.
 use native.Mathlib.Omega.{arith}
 use Rattle.model.specs.Outputs.{presetSettable}
-use Rattle.output_effects.proofs.Judging.{byte-within}
+use Rattle.lists.proofs.Choices.{byte-within}
 use Rattle.output_effects.proofs.is_settable.Statement.{statement}
 use Rattle.output_effects.proofs.is_settable.Tie as tie
 

@@ -4,8 +4,8 @@ use mathlib.Core.Path.{refl}
 use Rattle.lists.specs.Entries.{entriesIn}
 use Rattle.model.specs.Refusals.{refusalOf}
 use Rattle.model.specs.Outputs.{startPulse, actOn, pulseOutputs}
-use Rattle.number_lists.proofs.Lists.{byte-some}
 use Rattle.output_effects.proofs.Judging.{also-11}
+use Rattle.lists.proofs.Choices.{byte-some}
 use Rattle.output_effects.proofs.pulse_refusal.Statement.{statement}
 use Rattle.output_effects.proofs.pulse_refusal.Tie as tie
 

@@ -9,10 +9,10 @@ use mathlib.Core.Path.{_≡_}
 use Prim.Native.Nat.{_≤_}
 use borrow.Author.Tests.{ne-eqb}
 use Rattle.lists.proofs.DataLaws.{field-length}
-use Rattle.encoding.proofs.Limit.{take-limited}
 use Rattle.model.specs.Calls.{step, run}
 use Rattle.player.specs.Scripts.{frameCall, lineCalls}
 use borrow.Author.Needs.{needs}
+use Rattle.lists.proofs.Parts.{take-limited}
 use Rattle.player.proofs.play_calls.Statement.{statement}
 use Rattle.player.proofs.play_calls.Tie as tie
 

@@ -2,7 +2,7 @@
 use borrow.Author.Tests.{eq-eqb, ne-eqb}
 use Rattle.model.specs.Refusals.{judged}
 use Rattle.model.specs.Notice.{readNotice}
-use Rattle.port_effects.proofs.Built.{byte-and-word}
+use Rattle.lists.proofs.DataLaws.{byte-and-word}
 use Rattle.port_effects.proofs.read_notice.Statement.{statement}
 use Rattle.port_effects.proofs.read_notice.Tie as tie
 

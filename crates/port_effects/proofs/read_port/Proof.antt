@@ -2,7 +2,7 @@
 use borrow.Author.Tests.{eq-eqb, ne-eqb}
 use Rattle.model.specs.Refusals.{judged}
 use Rattle.model.specs.Counters.{readPort}
-use Rattle.port_effects.proofs.Built.{two-bytes}
+use Rattle.lists.proofs.DataLaws.{two-pushed}
 use Rattle.port_effects.proofs.read_port.Statement.{statement}
 use Rattle.port_effects.proofs.read_port.Tie as tie
 
@@ -14,7 +14,7 @@ returns-2 : tie.Need-returns-2
 unfolding judged readPort
 returns-2 c =
     let at = c .before .before .before .before in
-    rw (eq-eqb _ _ (at .if1 .left), c .tell .ensures, c .before .push2 .ensures, c .before .before .push .ensures, c .before .before .before .empty .ensures, two-bytes)
+    rw (eq-eqb _ _ (at .if1 .left), c .tell .ensures, c .before .push2 .ensures, c .before .before .push .ensures, c .before .before .before .empty .ensures, two-pushed)
 
 pub read-port-spec : {M : Type 1} → statement M
 read-port-spec =

@@ -2,7 +2,7 @@
 use native.Mathlib.Omega.{arith}
 use lib.Pow.{pow-pos}
 use Rattle.register_reads.specs.Answers.{partOf}
-use Rattle.register_reads.proofs.Bits.{part-small}
+use Rattle.lists.proofs.NumberLaws.{part-small}
 use Rattle.register_reads.proofs.bits_part.Statement.{statement}
 use Rattle.register_reads.proofs.bits_part.Tie as tie
 

@@ -7,8 +7,9 @@ use mathlib.Core.List.{flatMap}
 use lib.ListN.{length, take, drop}
 use Rattle.lists.specs.Data.{extended}
 use Rattle.lists.specs.Numbers.{bytes}
-use Rattle.number_lists.proofs.Lists.{shown-turn, shown-end}
-use Rattle.register_reads.proofs.Groups.{part-length, part-word, words-data}
+use Rattle.register_reads.proofs.Groups.{words-data}
+use Rattle.lists.proofs.Parts.{part-length, part-word}
+use Rattle.lists.proofs.DataLaws.{shown-turn, shown-end}
 use Rattle.register_reads.proofs.show_words.Statement.{statement}
 use Rattle.register_reads.proofs.show_words.Tie as tie
 

@@ -8,8 +8,8 @@ use denote.Ref.{now}
 use lib.ListN.{length, drop}
 use Rattle.lists.specs.Data.{extended}
 use Rattle.model.specs.Counters.{listed}
-use Rattle.number_lists.proofs.Lists.{shown-turn, shown-end}
 use Rattle.spinel_reads.specs.Shown.{shownBytes}
+use Rattle.lists.proofs.DataLaws.{shown-turn, shown-end}
 use Rattle.spinel_reads.proofs.show_listed.Statement.{statement}
 use Rattle.spinel_reads.proofs.show_listed.Tie as tie
 

@@ -8,7 +8,8 @@ use lib.ListN.{length, take}
 use Rattle.digits.specs.Writing.{decimalText}
 use Rattle.digits.proofs.Characters.{length-decimal}
 use Rattle.texts.specs.Texts.{bytesText, answerText, textOf}
-use Rattle.texts.proofs.Stores.{stored-one, stored-byte, bytes-turn, take-most}
+use Rattle.texts.proofs.Stores.{stored-one, stored-byte, bytes-turn}
+use Rattle.lists.proofs.Parts.{take-most}
 use Rattle.texts.proofs.answer_text.Statement.{statement}
 use Rattle.texts.proofs.answer_text.Tie as tie
 
