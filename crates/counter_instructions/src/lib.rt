@@ -15,11 +15,11 @@ pub fn read_counters(m: Module, d: &[u8]) -> Served
 {
     let x = m.inputs;
     let cs = x.counters;
-    let c = counter_effects::collect(cs, d);
+    let c = counter_reads::collect(cs, d);
     let left = c.counters;
     let reply = c.reply;
     outcomes::settle_with(
-        counter_effects::read_refusal(d),
+        counter_reads::read_refusal(d),
         m,
         outcomes::with_counters(m, left),
         reply,
@@ -40,7 +40,7 @@ fn deduct_listed(m: Module, d: &[u8]) -> Served
 {
     let x = m.inputs;
     let cs = x.counters;
-    let es = entries::triples(d);
+    let es = decoders::triples(d);
     let wrong = !number_lists::items_of(3, d.len());
     let refusal = encoding::refused_if(wrong, 8, counter_effects::deduct_refusal(cs, es));
     outcomes::settle(
@@ -86,7 +86,7 @@ pub fn set_modes(m: Module, d: &[u8]) -> Served
 {
     let kept = m.settings;
     let ms = kept.modes;
-    let es = entries::pairs(d);
+    let es = decoders::pairs(d);
     let wrong = !number_lists::items_of(2, d.len());
     let refusal = encoding::refused_if(wrong, 8, counter_effects::modes_refusal(es));
     outcomes::settle(

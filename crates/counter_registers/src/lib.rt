@@ -14,7 +14,7 @@ pub fn write_counters(m: Module, a: u16, d: &[u8]) -> Served
 {
     let x = m.inputs;
     let cs = x.counters;
-    let es = entries::registers(groups::COUNTERS, a, d);
+    let es = decoders::registers(groups::COUNTERS, a, d);
     let wrong = groups::is_outside(groups::COUNTERS, a, d.len() / 2);
     let refusal = encoding::refused_if(wrong, 9, counter_effects::clear_refusal(es));
     outcomes::settle(
@@ -30,7 +30,7 @@ pub fn write_deductions(m: Module, a: u16, d: &[u8]) -> Served
 {
     let x = m.inputs;
     let cs = x.counters;
-    let es = entries::registers(groups::DEDUCTIONS, a, d);
+    let es = decoders::registers(groups::DEDUCTIONS, a, d);
     let count = d.len() / 2;
     let wrong = groups::is_outside(groups::DEDUCTIONS, a, count) | (12 < count);
     let refusal = encoding::refused_if(wrong, 9, counter_effects::deduct_refusal(cs, es));
@@ -47,7 +47,7 @@ pub fn write_modes(m: Module, a: u16, d: &[u8]) -> Served
 {
     let kept = m.settings;
     let ms = kept.modes;
-    let es = entries::registers(groups::MODES, a, d);
+    let es = decoders::registers(groups::MODES, a, d);
     let wrong = groups::is_outside(groups::MODES, a, d.len() / 2);
     let refusal = encoding::refused_if(wrong, 9, counter_effects::modes_refusal(es));
     outcomes::settle(

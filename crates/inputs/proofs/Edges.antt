@@ -1,11 +1,9 @@
 -- Edges of the sixteen lines as a loop finds them. Assumes nothing.
 use Prim.Native.Nat.{ℕ}
 use native.Mathlib.Omega.{arith}
-use mathlib.Core.Path.{_≡_, refl, sym, ap, _∙_}
-use mathlib.Core.Bool.{Bool, true, false, cond, not, _&&_, _||_, or-false, Bool·beq}
-use borrow.Author.Tests.{eqb-true}
+use mathlib.Core.Path.{_≡_, sym, ap, _∙_}
+use mathlib.Core.Bool.{Bool, false, _&&_}
 use mathlib.Core.List.{List}
-use lib.Dec.{eqb}
 use lib.ListN.{length, getD}
 use Rattle.lists.specs.Tests.{any}
 use Rattle.lists.specs.Numbers.{bitAt}
@@ -14,7 +12,7 @@ use Rattle.lists.proofs.Somes.{some-any, some-false, some-of, none-below, mapi-
 use Rattle.model.specs.declared.Inputs.{Inputs}
 use Rattle.model.specs.declared.Line.{Line}
 use Rattle.model.specs.State.{freshLine}
-use Rattle.model.specs.Samples.{isEdge, edges, selects, selectedEdge, counted, linesSampled, countersSampled}
+use Rattle.model.specs.Samples.{isEdge, edges, selectedEdge, counted, linesSampled, countersSampled}
 use Rattle.inputs.specs.Passes.{anyMasked, sampledOf}
 
 -- without an edge no counter moves
@@ -23,23 +21,6 @@ unfolding edges countersSampled counted selectedEdge
 no-edge was now modes cs e h =
     let none = sym (some-any (λ i x. isEdge x (getD now i freshLine)) was freshLine) ∙ h in
     mapi-same _ cs 0 (λ i l. rw (some-false (λ k. isEdge (getD was k freshLine) (getD now k freshLine)) (length was) i none (omega arith)))
-
--- the modes as one formula
-pub selects-formula : (mode : ℕ) (r : Bool) → (eqb mode 3 || (eqb mode 1 && r) || (eqb mode 2 && not r)) ≡ selects mode r
-unfolding selects
-selects-formula mode r = go (eqb mode 1) (eqb mode 2) refl refl
-  where
-    go : (a b : Bool) → eqb mode 1 ≡ a → eqb mode 2 ≡ b → (eqb mode 3 || (a && r) || (b && not r)) ≡ cond a r (cond b (not r) (eqb mode 3))
-    go true b p q = let e : b ≡ false = sym q ∙ two in rw (eqb-true mode 1 p, e) (or-false r)
-      where
-        two : eqb mode 2 ≡ false
-        two = rw (eqb-true mode 1 p)
-    go false true p q = rw (eqb-true mode 2 q)
-    go false false p q = rw (or-false (eqb mode 3 || false), or-false (eqb mode 3))
-
--- an edge that the formula selects
-pub selected-formula : (mode : ℕ) (a b : Bool) → (not (Bool·beq a b) && (eqb mode 3 || (eqb mode 1 && b) || (eqb mode 2 && not b))) ≡ (not (Bool·beq a b) && selects mode b)
-selected-formula mode a b = ap (not (Bool·beq a b) &&_) (selects-formula mode b)
 
 -- without an edge the mask picks none
 pub no-mask : (mask : ℕ) (edged : List Bool) → any (λ b. b) edged ≡ false → anyMasked mask edged ≡ false

@@ -1,9 +1,9 @@
-// The inputs: one sample of a line, the pass over the sixteen, counting by mode, edges.
+// The sixteen inputs: the pass over the lines, which of them had an edge, counters, and the edges that a mask sees.
 ghost use mathlib.Core.Path.{_≡_};
 ghost use Prim.Native.Nat.{_<_};
 ghost use Rattle.lists.specs.Tests.{any};
 ghost use Rattle.lists.specs.Numbers.{bitAt};
-ghost use Rattle.model.specs.Samples.{lineSampled, linesSampled, isEdge, edges, selectedEdge, counted, countersSampled};
+ghost use Rattle.model.specs.Samples.{linesSampled, edges, countersSampled};
 ghost use Rattle.inputs.specs.Passes.{anyMasked, sampledOf, stableBits};
 use model::Inputs;
 use model::Line;
@@ -23,28 +23,6 @@ fn bit_at(bits: u16, i: usize) -> bool
     (bits >> i) % 2 == 1
 }
 
-// One line's sample: debounce by run and sampling number.
-pub fn sample_line(x: Line, sampling: u8, bit: bool) -> Line
-    ensures { λ r. ⌜ r ≡ lineSampled sampling bit x ⌝ }
-{
-    let stable = x.stable;
-    if bit == stable {
-        return Line { stable, run: 0 };
-    }
-    let run = x.run;
-    let more = (run as u16) + 1;
-    if (sampling as u16) <= more {
-        return Line {
-            stable: bit,
-            run: 0,
-        };
-    }
-    Line {
-        stable,
-        run: run + 1,
-    }
-}
-
 // The pass over the sixteen lines.
 pub fn sample_lines(a: [Line; 16], sampling: u8, bits: u16) -> [Line; 16]
     ensures { λ r. ⌜ r ≡ linesSampled sampling bits a ⌝ }
@@ -53,33 +31,9 @@ pub fn sample_lines(a: [Line; 16], sampling: u8, bits: u16) -> [Line; 16]
     for i in 0..16usize {
         let x = next[i];
         let bit = bit_at(bits, i);
-        next[i] = sample_line(x, sampling, bit);
+        next[i] = lines::sample_line(x, sampling, bit);
     }
     next
-}
-
-pub fn is_edge(was: Line, now: Line) -> bool
-    ensures { λ r. ⌜ r ≡ isEdge was now ⌝ }
-{
-    was.stable != now.stable
-}
-
-// Whether a line has an edge that its mode selects.
-pub fn is_selected(mode: u8, was: Line, now: Line) -> bool
-    ensures { λ r. ⌜ r ≡ selectedEdge mode was now ⌝ }
-{
-    let rising = now.stable;
-    (was.stable != now.stable) & ((mode == 3) | ((mode == 1) & rising) | ((mode == 2) & !rising))
-}
-
-// One more for a selected edge, by `wrapping_add_u16`: the largest value is followed by 0.
-pub fn count(selected: bool, counter: u16) -> u16
-    ensures { λ r. ⌜ r ≡ counted selected counter ⌝ }
-{
-    if selected {
-        return std::num::wrapping_add_u16(counter, 1);
-    }
-    counter
 }
 
 // Every counter by its own line's edge.
@@ -97,8 +51,8 @@ pub fn count_lines(
         let mode = modes[i];
         let before = was[i];
         let after = now[i];
-        let selected = is_selected(mode, before, after);
-        next[i] = count(selected, counter);
+        let selected = lines::is_selected(mode, before, after);
+        next[i] = lines::count(selected, counter);
     }
     next
 }
@@ -111,7 +65,7 @@ pub fn edges_of(was: [Line; 16], now: [Line; 16]) -> [bool; 16]
     for i in 0..16usize {
         let before = was[i];
         let after = now[i];
-        found[i] = is_edge(before, after);
+        found[i] = lines::is_edge(before, after);
     }
     found
 }

@@ -3,7 +3,7 @@ use Prim.Native.Nat.{ℕ, suc, _≤_, _<_}
 use native.Mathlib.Omega.{arith}
 use lib.Dec.{eqb, leb, ltb, leb·zero}
 use borrow.Author.Tests.{eqb-true, leb-true, leb-false, le-leb, le-ltb, lt-ltb, not-true, not-false}
-use mathlib.Core.Path.{_≡_, refl, sym, _∙_}
+use mathlib.Core.Path.{_≡_, refl, sym, _∙_, ap}
 use mathlib.Core.Bool.{Bool, true, false, cond, not, _&&_, _||_, and-true}
 use mathlib.Core.List.{List, [], _∷_}
 use Rattle.lists.specs.Tests.{within, all}
@@ -16,6 +16,10 @@ cond-case P false a b f g = g refl
 -- one arm of a dispatch on a number
 pub cond-eq : {A : Type 0} (P : A → Type 0) (n k : ℕ) (a b : A) → (n ≡ k → P a) → P b → P (cond (eqb n k) a b)
 cond-eq P n k a b f g = cond-case P (eqb n k) a b (λ e. f (eqb-true n k e)) (λ _. g)
+
+-- a test of a number that is known
+pub eqb-at : (n a b : ℕ) → n ≡ a → eqb n b ≡ eqb a b
+eqb-at n a b h = ap (λ m. eqb m b) h
 
 -- a refusal's number that a test did not give
 pub passed : (b : Bool) (n r : ℕ) → cond b (suc n) r ≡ 0 → (b ≡ false) × (r ≡ 0)

@@ -58,6 +58,10 @@ pub byte-and-word : (a v : ℕ) → extended (pushed (dataOf []) a) (bytes 2 v) 
 unfolding bytes
 byte-and-word a v = ap (λ (d : Data). extended d (bytes 2 v)) (push-law [] a (omega arith)) ∙ extend-law (bytes 2 v) (a ∷ []) (omega arith)
 
+pub bytes-and-word : (a b v : ℕ) → extended (pushed (pushed (dataOf []) a) b) (bytes 2 v) ≡ dataOf (a ∷ b ∷ bytes 2 v)
+unfolding bytes
+bytes-and-word a b v = ap (λ (d : Data). extended d (bytes 2 v)) (two-pushed a b) ∙ extend-law (bytes 2 v) (a ∷ b ∷ []) (omega arith)
+
 -- bytes after bytes, in two parts
 pub extended-append : (xs ys : List ℕ) (b : Data) → extended b (xs ++ ys) ≡ extended (extended b xs) ys
 unfolding extended

@@ -28,14 +28,14 @@ use outcomes::Served;
 fn coils_told(os: [Output; 16], a: u16, n: u16) -> Told
     ensures { λ r. ⌜ r ≡ toldOf (readBits (outputStates os) a n) ⌝ }
 {
-    register_reads::read_bits(spinel_reads::output_bits(os), a, n)
+    bit_reads::read_bits(spinel_reads::output_bits(os), a, n)
 }
 
 // Stable states of inputs, n from place a on.
 fn inputs_told(lines: [Line; 16], a: u16, n: u16) -> Told
     ensures { λ r. ⌜ r ≡ toldOf (readBits (map (λ (y : LineOf). y .stable) lines) a n) ⌝ }
 {
-    register_reads::read_bits(inputs::stable_bits(lines), a, n)
+    bit_reads::read_bits(inputs::stable_bits(lines), a, n)
 }
 
 // 01: coils.

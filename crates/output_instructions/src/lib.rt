@@ -21,7 +21,7 @@ pub fn set_outputs(m: Module, d: &[u8]) -> Served
     let hs = kept.thermostats;
     let os = m.outputs;
     let reading = m.reading;
-    let es = entries::set_bytes(d);
+    let es = decoders::set_bytes(d);
     let wrong = !number_lists::items_of(1, d.len());
     let refusal = encoding::refused_if(wrong, 8, output_effects::switch_refusal(reading, hs, es));
     outcomes::settle(
@@ -39,7 +39,7 @@ fn pulse_listed(m: Module, time: HalfSeconds, d: &[u8]) -> Served
     let hs = kept.thermostats;
     let os = m.outputs;
     let reading = m.reading;
-    let es = entries::set_bytes(d);
+    let es = decoders::set_bytes(d);
     let wrong = !number_lists::items_of(1, d.len());
     let refusal = encoding::refused_if(
         wrong,
@@ -72,11 +72,11 @@ pub fn start_presets(m: Module, d: &[u8]) -> Served
     let hs = kept.thermostats;
     let os = m.outputs;
     let reading = m.reading;
-    let refusal = output_effects::start_refusal(ps, reading, hs, d);
+    let refusal = preset_effects::start_refusal(ps, reading, hs, d);
     outcomes::settle(
         refusal,
         m,
-        outcomes::with_outputs(m, output_effects::start(ps, os, d)),
+        outcomes::with_outputs(m, preset_effects::start(ps, os, d)),
     )
 }
 
@@ -86,11 +86,11 @@ pub fn set_presets(m: Module, d: &[u8]) -> Served
 {
     let kept = m.settings;
     let ps = kept.presets;
-    let refusal = output_effects::presets_refusal(d);
+    let refusal = preset_effects::presets_refusal(d);
     outcomes::settle(
         refusal,
         m,
-        outcomes::with_presets(m, output_effects::set_presets(ps, d)),
+        outcomes::with_presets(m, preset_effects::set_presets(ps, d)),
     )
 }
 

@@ -72,7 +72,7 @@ pub fn write_coils(m: Module, a: u16, n: u16, d: &[u8]) -> Served
     let hs = kept.thermostats;
     let os = m.outputs;
     let reading = m.reading;
-    let es = entries::coils(a, n, d);
+    let es = decoders::coils(a, n, d);
     let wrong = groups::is_outside(groups::BITS, a, n as usize);
     let refusal = encoding::refused_if(wrong, 9, output_effects::switch_refusal(reading, hs, es));
     outcomes::settle(

@@ -12,7 +12,7 @@ use outcomes::Served;
 pub fn write_permission(m: Module, single: bool, a: u16, d: &[u8]) -> Served
     ensures { λ r. ⌜ r ≡ servedOf (judged m (onPart (withModbus m) (writePermission single a (words (now (d .entry))) (m .modbus)))) ⌝ }
 {
-    let unfit = encoding::refused_if(entries::value_at(d, 0) != 0x00FF, 11, 0);
+    let unfit = encoding::refused_if(decoders::value_at(d, 0) != 0x00FF, 11, 0);
     let wrong = groups::is_outside(groups::PERMISSION, a, d.len() / 2) | !single;
     let refusal = encoding::refused_if(wrong, 9, unfit);
     let port = port_effects::permitted(m.modbus, true);
@@ -23,7 +23,7 @@ pub fn write_permission(m: Module, single: bool, a: u16, d: &[u8]) -> Served
 pub fn write_port(m: Module, permitted: bool, a: u16, d: &[u8]) -> Served
     ensures { λ r. ⌜ r ≡ servedOf (judged m (writePort permitted a (words (now (d .entry))) m)) ⌝ }
 {
-    let es = entries::registers(groups::PORT, a, d);
+    let es = decoders::registers(groups::PORT, a, d);
     let closed = encoding::refused_if(!permitted, 10, port_effects::fields_refusal(es));
     let wrong = groups::is_outside(groups::PORT, a, d.len() / 2);
     let refusal = encoding::refused_if(wrong, 9, closed);

@@ -80,7 +80,7 @@ pub fn heat(m: Module, good: bool, tenths: i16) -> Module
     let kept = m.settings;
     let hs = kept.thermostats;
     let before = m.last;
-    let t = thermostat::take_reading(os, hs, before, thermostat::reading_of(good, tenths));
+    let t = heating::take_reading(os, hs, before, thermostat::reading_of(good, tenths));
     let outputs = t.outputs;
     let reading = t.reading;
     let last = t.last;

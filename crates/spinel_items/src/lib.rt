@@ -47,7 +47,7 @@ pub fn show_pulse(os: [Output; 16], n: u8, out: Data) -> Data
 pub fn show_preset(ps: [Preset; 16], n: u8, out: Data) -> Data
     ensures { λ r. ⌜ r ≡ extended out (presetShown ps n) ⌝ }
 {
-    let p = output_effects::preset_at(ps, n);
+    let p = preset_effects::preset_at(ps, n);
     let time = p.time;
     encoding::push(encoding::push(out, p.kind), time.0)
 }
@@ -60,7 +60,7 @@ pub fn show_mode(hs: [Thermostat; 16], ps: [Preset; 16], n: u8, out: Data) -> Da
     if holding::is_active(h) {
         return encoding::push(out, 0xA0 + holding::setting_shown(h));
     }
-    let p = output_effects::preset_at(ps, n);
+    let p = preset_effects::preset_at(ps, n);
     encoding::push(out, p.kind)
 }
 

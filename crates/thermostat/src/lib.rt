@@ -1,9 +1,8 @@
-// The thermometer and the thermostats: what a temperature sample does.
+// One thermostat, and the thermometer: a reading from mark and tenths, what a thermostat does with a valid one, ERR at a fault.
 ghost use mathlib.Core.Path.{_≡_};
 ghost use mathlib.Core.Bool.{_&&_};
 ghost use lib.Signed.{ltZ, leZ};
-ghost use Rattle.model.specs.Temperature.{readingOf, levelled, crossed, crossing, heated, failed, byThermostat};
-ghost use Rattle.thermostat.specs.Parts.{takenParts};
+ghost use Rattle.model.specs.Temperature.{readingOf, levelled, crossed, crossing, heated, failed};
 use model::Output;
 use model::Reading;
 use model::Thermostat;
@@ -69,7 +68,7 @@ fn cross(on: bool, h: Thermostat, last: Reading, now: i16, o: Output) -> Output
 }
 
 // One output at a valid sample, by its thermostat's SS.
-fn heat(last: Reading, now: i16, h: Thermostat, o: Output) -> Output
+pub fn heat(last: Reading, now: i16, h: Thermostat, o: Output) -> Output
     ensures { λ r. ⌜ r ≡ heated last now h o ⌝ }
 {
     if !holding::is_active(h) {
@@ -84,7 +83,7 @@ fn heat(last: Reading, now: i16, h: Thermostat, o: Output) -> Output
 }
 
 // One output at a fault sample: ERR 1 sets it off, ERR 2 on, any other leaves it.
-fn fail(h: Thermostat, o: Output) -> Output
+pub fn fail(h: Thermostat, o: Output) -> Output
     ensures { λ r. ⌜ r ≡ failed h o ⌝ }
 {
     if !holding::is_active(h) {
@@ -95,56 +94,5 @@ fn fail(h: Thermostat, o: Output) -> Output
         1 => outputs::set(false),
         2 => outputs::set(true),
         _ => o,
-    }
-}
-
-// The sixteen at a valid sample.
-pub fn heat_outputs(last: Reading, now: i16, hs: [Thermostat; 16], os: [Output; 16]) -> [Output; 16]
-    ensures { λ r. ⌜ r ≡ byThermostat (heated last now) hs os ⌝ }
-{
-    let mut next = os;
-    for i in 0..16usize {
-        let h = hs[i];
-        let o = next[i];
-        next[i] = heat(last, now, h, o);
-    }
-    next
-}
-
-// The sixteen at a fault sample.
-pub fn fail_outputs(hs: [Thermostat; 16], os: [Output; 16]) -> [Output; 16]
-    ensures { λ r. ⌜ r ≡ byThermostat failed hs os ⌝ }
-{
-    let mut next = os;
-    for i in 0..16usize {
-        let h = hs[i];
-        let o = next[i];
-        next[i] = fail(h, o);
-    }
-    next
-}
-
-// What a temperature sample changes.
-pub struct Taken {
-    pub outputs: [Output; 16],
-    pub reading: Reading,
-    pub last: Reading,
-}
-
-// A new reading: the thermostats act, and a valid one is the last valid from now on.
-pub fn take_reading(os: [Output; 16], hs: [Thermostat; 16], last: Reading, r: Reading) -> Taken
-    ensures { λ t. ⌜ t ≡ takenParts os hs last r ⌝ }
-{
-    match r {
-        Reading::Valid(now, _) => Taken {
-            outputs: heat_outputs(last, now, hs, os),
-            reading: r,
-            last: r,
-        },
-        Reading::Fault => Taken {
-            outputs: fail_outputs(hs, os),
-            reading: r,
-            last,
-        },
     }
 }

@@ -18,9 +18,10 @@ use Rattle.model.specs.Temperature.{thermostatFits, groupFits, setGroup, setThe
 use Rattle.model.specs.Modbus.{words}
 use Rattle.model.specs.Registers.{thermostatGroup, outside, noThermostat, placeOf, wordsThermostat, writeThermostat}
 use Rattle.groups.proofs.Inside.{inside, four}
-use Rattle.entries.proofs.Entries.{words-length, value-place}
-use Rattle.thermostat_effects.specs.Parts.{groupSetpoint, registerSetpoint, setpointFits, setpointPut, setSetpoints}
-use Rattle.thermostat_effects.proofs.Decoded.{register-whole}
+use Rattle.decoders.proofs.Places.{words-length, value-place}
+use Rattle.setpoints.specs.Setpoints.{groupSetpoint, registerSetpoint}
+use Rattle.thermostat_effects.specs.Parts.{setpointFits, setpointPut, setSetpoints}
+use Rattle.setpoints.proofs.Decoded.{register-whole}
 
 -- 1AH ------------------------------------------------------------------------------------
 

@@ -13,7 +13,7 @@ pub fn set_thermostats(m: Module, d: &[u8]) -> Served
 {
     let kept = m.settings;
     let hs = kept.thermostats;
-    let es = thermostat_effects::from_groups(d);
+    let es = setpoints::from_groups(d);
     let wrong = !number_lists::items_of(8, d.len());
     let refusal = encoding::refused_if(wrong, 8, thermostat_effects::thermostats_refusal(es));
     outcomes::settle(

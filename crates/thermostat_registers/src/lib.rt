@@ -14,7 +14,7 @@ pub fn write_thermostat(m: Module, a: u16, d: &[u8]) -> Served
 {
     let kept = m.settings;
     let hs = kept.thermostats;
-    let es = thermostat_effects::from_registers(a, d);
+    let es = setpoints::from_registers(a, d);
     let wrong = groups::no_thermostat(a, d.len() / 2);
     let wide = 255 < encoding::word_from(d, 0);
     let misfit = encoding::refused_if(wide, 11, thermostat_effects::thermostats_refusal(es));

@@ -10,7 +10,7 @@ use Rattle.model.specs.State.{withCounters}
 use Rattle.model.specs.Refusals.{refuse, onPart, refusalOf}
 use Rattle.model.specs.Counters.{itemsOf, deduct}
 use Rattle.number_lists.proofs.Lists.{items-length}
-use Rattle.entries.proofs.Entries.{list-whole}
+use Rattle.decoders.proofs.Places.{list-whole}
 use Rattle.outcomes.proofs.Laws.{decoded-law}
 use Rattle.counter_instructions.proofs.deduct_listed.Statement.{statement}
 use Rattle.counter_instructions.proofs.deduct_listed.Tie as tie

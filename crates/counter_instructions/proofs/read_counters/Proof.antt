@@ -6,8 +6,8 @@ use Rattle.lists.proofs.Choices.{passed}
 use Rattle.model.specs.State.{withCounters}
 use Rattle.model.specs.Refusals.{onPart, refusalOf}
 use Rattle.model.specs.Counters.{readCounters}
-use Rattle.counter_effects.specs.Answers.{readRest}
-use Rattle.counter_effects.proofs.Readings.{values-fit}
+use Rattle.counter_reads.specs.Reading.{readRest}
+use Rattle.counter_reads.proofs.Readings.{values-fit}
 use Rattle.outcomes.proofs.Laws.{settled-law}
 use Rattle.counter_instructions.proofs.read_counters.Statement.{statement}
 use Rattle.counter_instructions.proofs.read_counters.Tie as tie

@@ -11,7 +11,7 @@ use Rattle.model.specs.State.{withModes}
 use Rattle.model.specs.Refusals.{refuse, onPart, refusalOf}
 use Rattle.model.specs.Counters.{itemsOf, setModes, setModesList}
 use Rattle.number_lists.proofs.Lists.{items-length}
-use Rattle.entries.proofs.Entries.{list-whole}
+use Rattle.decoders.proofs.Places.{list-whole}
 use Rattle.counter_effects.proofs.Modes.{modes-whole}
 use Rattle.outcomes.proofs.Laws.{decoded-law}
 use Rattle.counter_instructions.proofs.set_modes.Statement.{statement}

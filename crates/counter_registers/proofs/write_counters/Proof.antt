@@ -12,7 +12,7 @@ use Rattle.model.specs.State.{withCounters}
 use Rattle.model.specs.Refusals.{accepting, refuse, onPart, refusalOf}
 use Rattle.model.specs.Registers.{counterGroup, outside, numberAt, isZero, clearOne, writeCounters}
 use Rattle.model.specs.Modbus.{words}
-use Rattle.entries.proofs.Entries.{words-length, range-whole}
+use Rattle.decoders.proofs.Places.{words-length, range-whole}
 use Rattle.outcomes.proofs.Laws.{decoded-law}
 use Rattle.counter_registers.proofs.write_counters.Statement.{statement}
 use Rattle.counter_registers.proofs.write_counters.Tie as tie

@@ -14,7 +14,7 @@ use Rattle.model.specs.Refusals.{refuse, onPart, refusalOf}
 use Rattle.model.specs.Counters.{mostItems, deduct}
 use Rattle.model.specs.Registers.{deductionGroup, outside, numberAt, writeDeductions}
 use Rattle.model.specs.Modbus.{words}
-use Rattle.entries.proofs.Entries.{words-length, range-whole}
+use Rattle.decoders.proofs.Places.{words-length, range-whole}
 use Rattle.outcomes.proofs.Laws.{decoded-law}
 use Rattle.counter_registers.proofs.write_deductions.Statement.{statement}
 use Rattle.counter_registers.proofs.write_deductions.Tie as tie

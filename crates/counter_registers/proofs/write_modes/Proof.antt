@@ -13,7 +13,7 @@ use Rattle.model.specs.Refusals.{refuse, onPart, refusalOf}
 use Rattle.model.specs.Counters.{setModes}
 use Rattle.model.specs.Registers.{modeGroup, outside, numberAt, writeModes}
 use Rattle.model.specs.Modbus.{words}
-use Rattle.entries.proofs.Entries.{words-length, range-whole}
+use Rattle.decoders.proofs.Places.{words-length, range-whole}
 use Rattle.counter_effects.proofs.Modes.{modes-whole}
 use Rattle.outcomes.proofs.Laws.{decoded-law}
 use Rattle.counter_registers.proofs.write_modes.Statement.{statement}

@@ -2,7 +2,7 @@
 use borrow.Author.Needs.{needs}
 use mathlib.Core.Path.{_≡_, sym, _∙_}
 use lib.ListN.{length, length-map}
-use Rattle.register_reads.proofs.Bits.{bits-told}
+use Rattle.bit_reads.proofs.Bits.{bits-told}
 use Rattle.model.specs.declared.Output.{Output}
 use Rattle.model.specs.Outputs.{outputStates}
 use Rattle.modbus.proofs.coils_told.Statement.{statement}

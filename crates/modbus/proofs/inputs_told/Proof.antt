@@ -3,7 +3,7 @@ use borrow.Author.Needs.{needs}
 use mathlib.Core.Path.{_≡_, sym, _∙_}
 use lib.ListN.{length, length-map}
 use mathlib.Core.List.{map}
-use Rattle.register_reads.proofs.Bits.{bits-told}
+use Rattle.bit_reads.proofs.Bits.{bits-told}
 use Rattle.model.specs.declared.Line.{Line}
 use Rattle.inputs.specs.Passes.{stableBits}
 use Rattle.modbus.proofs.inputs_told.Statement.{statement}

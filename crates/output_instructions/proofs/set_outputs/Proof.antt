@@ -10,7 +10,7 @@ use Rattle.model.specs.Refusals.{refuse, onPart, refusalOf}
 use Rattle.model.specs.Counters.{itemsOf}
 use Rattle.model.specs.Outputs.{setByte, setOutput, actOn, setOutputs}
 use Rattle.number_lists.proofs.Lists.{items-length}
-use Rattle.entries.proofs.Entries.{sets-whole}
+use Rattle.decoders.proofs.Places.{sets-whole}
 use Rattle.outcomes.proofs.Laws.{decoded-law}
 use Rattle.output_instructions.proofs.set_outputs.Statement.{statement}
 use Rattle.output_instructions.proofs.set_outputs.Tie as tie

@@ -9,7 +9,7 @@ use Rattle.model.specs.Refusals.{refuse, onPart, refusalOf}
 use Rattle.model.specs.Outputs.{setOutput, actOn}
 use Rattle.model.specs.Registers.{bitGroup, outside, numberAt, writeCoils}
 use Rattle.model.specs.Modbus.{bitsFrom}
-use Rattle.entries.proofs.Entries.{bits-length, coils-whole}
+use Rattle.decoders.proofs.Places.{bits-length, coils-whole}
 use Rattle.outcomes.proofs.Laws.{decoded-law}
 use Rattle.output_registers.proofs.write_coils.Statement.{statement}
 use Rattle.output_registers.proofs.write_coils.Tie as tie

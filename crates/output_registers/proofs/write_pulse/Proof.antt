@@ -19,7 +19,7 @@ use Rattle.model.specs.Refusals.{Request, refuse, onPart, refusalOf}
 use Rattle.model.specs.Outputs.{actOn, pulseOutputs}
 use Rattle.model.specs.Registers.{outputGroup, outside, numberAt, writePulse}
 use Rattle.model.specs.Modbus.{words}
-use Rattle.entries.proofs.Entries.{words-length, value-place}
+use Rattle.decoders.proofs.Places.{words-length, value-place}
 use Rattle.output_effects.proofs.Judging.{also-11}
 use Rattle.outcomes.proofs.Laws.{decoded-law}
 use Rattle.output_registers.proofs.write_pulse.Statement.{statement}

@@ -5,7 +5,7 @@ use Rattle.model.specs.State.{withModbus}
 use Rattle.model.specs.Refusals.{onPart, refusalOf}
 use Rattle.model.specs.Registers.{writePermission}
 use Rattle.model.specs.Modbus.{words}
-use Rattle.entries.proofs.Entries.{words-length}
+use Rattle.decoders.proofs.Places.{words-length}
 use Rattle.outcomes.proofs.Laws.{settled-law}
 use Rattle.port_registers.proofs.write_permission.Statement.{statement}
 use Rattle.port_registers.proofs.write_permission.Tie as tie

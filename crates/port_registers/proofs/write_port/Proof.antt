@@ -17,7 +17,7 @@ use Rattle.model.specs.Refusals.{accepting, refuse, refusalOf}
 use Rattle.model.specs.Counters.{reset}
 use Rattle.model.specs.Registers.{portGroup, outside, numberAt, portSettable, setPortField, writePort}
 use Rattle.model.specs.Modbus.{words}
-use Rattle.entries.proofs.Entries.{words-length, range-whole}
+use Rattle.decoders.proofs.Places.{words-length, range-whole}
 use Rattle.port_effects.proofs.Fields.{fields-whole}
 use Rattle.outcomes.proofs.Laws.{decoded-law}
 use Rattle.port_registers.proofs.write_port.Statement.{statement}

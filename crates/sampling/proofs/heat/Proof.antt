@@ -1,6 +1,6 @@
 -- `sampling::heat` meets its contract. Assumes nothing.
 use mir.Facts.{toZ-ofZ}
-use Rattle.thermostat.proofs.TakenLaw.{taken-parts}
+use Rattle.heating.proofs.TakenLaw.{taken-parts}
 use Rattle.sampling.proofs.heat.Statement.{statement}
 use Rattle.sampling.proofs.heat.Tie as tie
 

@@ -3,7 +3,7 @@ use mathlib.Core.Path.{_≡_, sym, _∙_}
 use Rattle.model.specs.Temperature.{active}
 use borrow.Author.Tests.{not-true, not-false, eq-eqb, ne-eqb}
 use Rattle.model.specs.Temperature.{failed}
-use Rattle.thermostat.proofs.Keys.{eqb-at}
+use Rattle.lists.proofs.Choices.{eqb-at}
 use Rattle.thermostat.proofs.fail.Statement.{statement}
 use Rattle.thermostat.proofs.fail.Tie as tie
 

@@ -4,7 +4,7 @@ use Rattle.model.specs.Temperature.{active}
 use borrow.Author.Tests.{not-true, not-false, eq-eqb, ne-eqb}
 use mir.Facts.{toZ-ofZ}
 use Rattle.model.specs.Temperature.{heated}
-use Rattle.thermostat.proofs.Keys.{eqb-at}
+use Rattle.lists.proofs.Choices.{eqb-at}
 use Rattle.thermostat.proofs.heat.Statement.{statement}
 use Rattle.thermostat.proofs.heat.Tie as tie
 

@@ -6,7 +6,8 @@ use lib.ListN.{take, drop}
 use borrow.Author.Tests.{not-true, not-false}
 use Rattle.lists.specs.Tests.{all}
 use Rattle.lists.proofs.Loops.{test-goes, test-stops, test-ends}
-use Rattle.thermostat_effects.specs.Parts.{noSetpoint, setpointFits}
+use Rattle.setpoints.specs.Setpoints.{noSetpoint}
+use Rattle.thermostat_effects.specs.Parts.{setpointFits}
 use Rattle.thermostat_effects.proofs.all_fit.Statement.{statement}
 use Rattle.thermostat_effects.proofs.all_fit.Tie as tie
 

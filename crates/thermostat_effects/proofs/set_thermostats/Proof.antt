@@ -5,7 +5,8 @@ use mathlib.Core.Path.{_≡_, refl, _∙_}
 use mathlib.Core.List.{foldl}
 use lib.ListN.{take, drop}
 use Rattle.lists.proofs.Loops.{each-goes, each-ends}
-use Rattle.thermostat_effects.specs.Parts.{noSetpoint, setpointPut}
+use Rattle.setpoints.specs.Setpoints.{noSetpoint}
+use Rattle.thermostat_effects.specs.Parts.{setpointPut}
 use Rattle.thermostat_effects.proofs.set_thermostats.Statement.{statement}
 use Rattle.thermostat_effects.proofs.set_thermostats.Tie as tie
 

@@ -5,7 +5,7 @@ use mir.Val.{SFits}
 use mir.Facts.{toZ-ofZ}
 use Rattle.lists.specs.Numbers.{bytes}
 use Rattle.model.specs.Temperature.{readingShown, patternOf}
-use Rattle.thermostat_effects.proofs.Shown.{bytes-and-word}
+use Rattle.lists.proofs.DataLaws.{bytes-and-word}
 use Rattle.thermostat_effects.proofs.show_reading.Statement.{statement}
 use Rattle.thermostat_effects.proofs.show_reading.Tie as tie
 

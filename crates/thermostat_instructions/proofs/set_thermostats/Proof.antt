@@ -9,9 +9,10 @@ use Rattle.model.specs.State.{withThermostats}
 use Rattle.model.specs.Refusals.{refuse, onPart, refusalOf}
 use Rattle.model.specs.Counters.{itemsOf}
 use Rattle.number_lists.proofs.Lists.{items-length}
-use Rattle.thermostat_effects.specs.declared.Setpoint.{Setpoint}
-use Rattle.thermostat_effects.specs.Parts.{groupSetpoint, setSetpoints}
-use Rattle.thermostat_effects.proofs.Decoded.{groups-whole}
+use Rattle.setpoints.specs.declared.Setpoint.{Setpoint}
+use Rattle.setpoints.specs.Setpoints.{groupSetpoint}
+use Rattle.thermostat_effects.specs.Parts.{setSetpoints}
+use Rattle.setpoints.proofs.Decoded.{groups-whole}
 use Rattle.thermostat_effects.proofs.Effects.{groups-request}
 use Rattle.outcomes.proofs.Laws.{decoded-law}
 use Rattle.thermostat_instructions.proofs.set_thermostats.Statement.{statement}

@@ -8,8 +8,8 @@ use Rattle.model.specs.State.{withThermostats}
 use Rattle.model.specs.Refusals.{onPart, refusalOf}
 use Rattle.model.specs.Registers.{writeThermostat}
 use Rattle.model.specs.Modbus.{words}
-use Rattle.entries.proofs.Entries.{words-length}
-use Rattle.thermostat_effects.proofs.Decoded.{setpoints-in}
+use Rattle.decoders.proofs.Places.{words-length}
+use Rattle.setpoints.proofs.Decoded.{setpoints-in}
 use Rattle.thermostat_effects.proofs.Effects.{writeRefusal, registers-refused, registers-put}
 use Rattle.outcomes.proofs.Laws.{settled-law}
 use Rattle.thermostat_registers.proofs.write_thermostat.Statement.{statement}

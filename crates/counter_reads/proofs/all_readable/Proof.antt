@@ -1,0 +1,47 @@
+-- `counter_reads::all_readable` meets its contract. The loop's invariant: what is left decides as the whole does. Assumes nothing.
+use borrow.Author.Needs.{needs}
+use native.Mathlib.Omega.{arith}
+use Prim.Native.Nat.{_≤_, _-_}
+use mathlib.Core.Path.{_≡_, refl, sym, _∙_}
+use lib.ListN.{length, drop, drop-of-length-le}
+use borrow.Author.Tests.{not-true, not-false}
+use Rattle.lists.specs.Tests.{all}
+use Rattle.lists.proofs.Choices.{all-goes, all-stops, all-ends}
+use Rattle.lists.proofs.ChunkLaws.{rest-first}
+use Rattle.counter_reads.specs.Reading.{readable}
+use Rattle.counter_reads.proofs.all_readable.Statement.{statement}
+use Rattle.counter_reads.proofs.all_readable.Tie as tie
+
+abbrev Inv-loop : tie.InvT-loop
+Inv-loop ps i₀ i = (i ≤ length ps) × (all readable (drop i ps) ≡ all readable ps)
+
+abbrev μ-loop : tie.MeasureT-loop
+μ-loop ps i₀ i = length ps - i
+
+returns : tie.Need-returns Inv-loop μ-loop
+returns c =
+    let at = c .before .before .before in
+    all-stops readable _ _ _ (rest-first _ _ (at .loop-test .taken)) (sym (c .before .is-readable .ensures) ∙ not-true _ (c .if1 .taken)) ∙ at .before .loop .inv .1
+
+loop-again : tie.Need-loop-again Inv-loop μ-loop
+loop-again c =
+    let at = c .before .before .before in
+    (omega arith, all-goes readable _ _ _ (rest-first _ _ (at .loop-test .taken)) (sym (c .before .is-readable .ensures) ∙ not-false _ (c .if1 .left)) ∙ at .before .loop .inv .1)
+
+returns-2 : tie.Need-returns-2 Inv-loop μ-loop
+returns-2 c = all-ends readable _ (drop-of-length-le _ {i = c .before .loop .i} (c .loop-test .left)) ∙ c .before .loop .inv .1
+
+pub all-readable-spec : {M : Type 1} → statement M
+all-readable-spec =
+    tie.close
+    (tie.spec
+    Inv-loop
+    μ-loop
+    (λ c. (omega arith, refl))
+    (λ c. search needs)
+    (λ c κs. tt)
+    returns
+    (λ c. search needs)
+    (λ c. search needs)
+    loop-again
+    returns-2)
