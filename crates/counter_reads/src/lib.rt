@@ -2,37 +2,16 @@
 ghost use mathlib.Core.Path.{_≡_};
 ghost use mathlib.Core.List.{List};
 ghost use Prim.Native.Nat.{ℕ};
-ghost use Rattle.lists.specs.Tests.{all};
 ghost use Rattle.model.specs.Refusals.{refusalOf};
 ghost use Rattle.model.specs.Counters.{parameters, readOne, readCounters};
-ghost use Rattle.counter_reads.specs.Reading.{readable, asksEvery, everyOf, readStep, readStart, readRest};
+ghost use Rattle.counter_reads.specs.Reading.{asksEvery, everyOf, readStep, readStart, readRest};
 use lists::Data;
+use number_lists::Place;
 
 // 60H: the counters after it, and the reply's data.
 pub struct Collected {
     pub counters: [u16; 16],
     pub reply: Data,
-}
-
-// Whether a parameter of 60H has the number of an input.
-fn is_readable(p: u8) -> bool
-    ensures { λ r. ⌜ r ≡ readable p ⌝ }
-{
-    number_lists::is_number(p % 64)
-}
-
-// Whether every parameter has one.
-fn all_readable(ps: &[u8]) -> bool
-    ensures { λ r. ⌜ r ≡ all readable (now (ps .entry)) ⌝ }
-{
-    let mut i = 0;
-    while i < ps.len() {
-        if !is_readable(ps[i]) {
-            return false;
-        }
-        i += 1;
-    }
-    true
 }
 
 // Whether there is a single parameter with number 0, which stands for all.
@@ -122,7 +101,7 @@ fn read_each(cs: [u16; 16], ps: &[u8]) -> Collected
 pub fn read_refusal(d: &[u8]) -> u8
     ensures { λ r. ⌜ ((cs : List ℕ) → r ≡ refusalOf (readCounters (now (d .entry)) cs)) ⌝ }
 {
-    let named = asks_every(d) | all_readable(d);
+    let named = asks_every(d) | number_lists::all_numbers(Place::LowBits, d);
     encoding::refused_if(
         !number_lists::items_of(1, d.len()),
         8,

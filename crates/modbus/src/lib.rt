@@ -42,27 +42,21 @@ fn inputs_told(lines: [Line; 16], a: u16, n: u16) -> Told
 fn read_coils(m: Module, b: &[u8]) -> Served
     ensures { λ r. ⌜ r ≡ servedOf (judged m (reading m (refuse 8 (quantityWrong 2000 (now (b .entry))) (readBits (outputStates (m .outputs)) (startOf (now (b .entry))) (secondOf (now (b .entry))))))) ⌝ }
 {
-    if modbus_bodies::quantity_wrong(2000, b) {
-        return modbus_bodies::wrong_body(m);
-    }
     let os = m.outputs;
     let a = encoding::word_from(b, 0);
     let n = encoding::word_from(b, 2);
-    outcomes::told(m, coils_told(os, a, n))
+    modbus_bodies::read_told(2000, m, b, coils_told(os, a, n))
 }
 
 // 02: inputs.
 fn read_inputs(m: Module, b: &[u8]) -> Served
     ensures { λ r. ⌜ r ≡ servedOf (judged m (reading m (refuse 8 (quantityWrong 2000 (now (b .entry))) (readBits (inputStates (m .inputs)) (startOf (now (b .entry))) (secondOf (now (b .entry))))))) ⌝ }
 {
-    if modbus_bodies::quantity_wrong(2000, b) {
-        return modbus_bodies::wrong_body(m);
-    }
     let x = m.inputs;
     let lines = x.lines;
     let a = encoding::word_from(b, 0);
     let n = encoding::word_from(b, 2);
-    outcomes::told(m, inputs_told(lines, a, n))
+    modbus_bodies::read_told(2000, m, b, inputs_told(lines, a, n))
 }
 
 // 1 to 2
@@ -137,13 +131,10 @@ fn read_registers(m: Module, b: &[u8]) -> Served
 fn read_reading(m: Module, b: &[u8]) -> Served
     ensures { λ r. ⌜ r ≡ servedOf (judged m (reading m (refuse 8 (quantityWrong 125 (now (b .entry))) (readWords readingGroup (readingWords (m .reading)) (startOf (now (b .entry))) (secondOf (now (b .entry))))))) ⌝ }
 {
-    if modbus_bodies::quantity_wrong(125, b) {
-        return modbus_bodies::wrong_body(m);
-    }
     let reading = m.reading;
     let a = encoding::word_from(b, 0);
     let n = encoding::word_from(b, 2);
-    outcomes::told(m, register_reads::read_input(reading, a, n))
+    modbus_bodies::read_told(125, m, b, register_reads::read_input(reading, a, n))
 }
 
 // Writing --------------------------------------------------------------------------------

@@ -2,7 +2,8 @@
 ghost use mathlib.Core.Path.{_≡_};
 ghost use Rattle.model.specs.Modbus.{quantityWrong, countWrong};
 ghost use Rattle.outcomes.specs.Parts.{plain};
-ghost use Rattle.modbus_bodies.specs.Parts.{headOf, echoed};
+ghost use Rattle.modbus_bodies.specs.Parts.{readAs, headOf, echoed};
+use encoding::Told;
 use model::Module;
 use outcomes::Served;
 
@@ -29,6 +30,16 @@ pub fn quantity_wrong(most: u16, b: &[u8]) -> bool
     }
     let n = encoding::word_from(b, 2);
     (n < 1) | (most < n)
+}
+
+// What a function that reads comes to: 8 for a wrong quantity, else what is told.
+pub fn read_told(most: u16, m: Module, b: &[u8], t: Told) -> Served
+    ensures { λ r. ⌜ r ≡ readAs most (now (b .entry)) m t ⌝ }
+{
+    if quantity_wrong(most, b) {
+        return wrong_body(m);
+    }
+    outcomes::told(m, t)
 }
 
 // 8: other than a start, a quantity of 1 to `most`, the byte count `size` and so many bytes.

@@ -5,11 +5,18 @@ use mathlib.Core.List.{List}
 use lib.Dec.{eqb}
 use lib.ListN.{length, getD}
 use Rattle.lists.specs.Tests.{within, all}
-use Rattle.model.specs.Counters.{isNumber, mostItems, itemsOf, listed}
+use Rattle.model.specs.Counters.{isNumber, numberIn, mostItems, itemsOf, listed}
+use Rattle.number_lists.specs.declared.Place.{Place}
+use Rattle.number_lists.specs.declared.Place.the-variants.{Whole, LowBits}
 
 -- `itemsOf` of a list of n bytes
 unfoldable pub itemsIn : ℕ → ℕ → Bool
 itemsIn w n = eqb (n % w) 0 && within 1 mostItems (n / w)
+
+-- a byte's number is one of an input or an output
+abbrev pub hasNumber : Place → ℕ → Bool
+hasNumber Whole = isNumber
+hasNumber LowBits = λ p. isNumber (numberIn p)
 
 -- a single 00, which `listed` takes for all
 unfoldable pub asksAll : List ℕ → Bool

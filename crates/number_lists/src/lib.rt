@@ -5,7 +5,13 @@ ghost use lib.ListN.{length, getD};
 ghost use Rattle.lists.specs.Tests.{all};
 ghost use Rattle.lists.specs.Entries.{entry};
 ghost use Rattle.model.specs.Counters.{isNumber, everyNumber, listed};
-ghost use Rattle.number_lists.specs.Items.{itemsIn, asksAll, listRefusal};
+ghost use Rattle.number_lists.specs.Items.{itemsIn, hasNumber, asksAll, listRefusal};
+
+// Where a byte has its number: it is the number, or, in a parameter of 60H, its low six bits are.
+pub enum Place {
+    Whole,
+    LowBits,
+}
 
 // Whether n bytes are 1 to 12 items of w bytes each, and nothing over.
 pub fn items_of(w: usize, n: usize) -> bool
@@ -24,13 +30,23 @@ pub fn is_number(n: u8) -> bool
     (1 <= n) & (n <= 16)
 }
 
-// Whether every byte is a number.
-pub fn all_numbers(d: &[u8]) -> bool
-    ensures { λ r. ⌜ r ≡ all isNumber (now (d .entry)) ⌝ }
+// Whether a byte has a number there.
+fn has_number(place: Place, p: u8) -> bool
+    ensures { λ r. ⌜ r ≡ hasNumber place p ⌝ }
+{
+    match place {
+        Place::Whole => is_number(p),
+        Place::LowBits => is_number(p % 64),
+    }
+}
+
+// Whether every byte has.
+pub fn all_numbers(place: Place, d: &[u8]) -> bool
+    ensures { λ r. ⌜ r ≡ all (hasNumber place) (now (d .entry)) ⌝ }
 {
     let mut i = 0;
     while i < d.len() {
-        if !is_number(d[i]) {
+        if !has_number(place, d[i]) {
             return false;
         }
         i += 1;
@@ -82,7 +98,7 @@ pub fn all_listed(d: &[u8]) -> bool
     if is_all(d) {
         return true;
     }
-    all_numbers(d)
+    all_numbers(Place::Whole, d)
 }
 
 // Why a list read is refused, or 0.

@@ -13,7 +13,7 @@ unfolding readCounters refusalOf readable
 returns c cs =
     let i = c .before .before in
     let d = now (i .before .before .before .before .args .d) in
-    rw (c .refused-if2 .ensures, c .before .refused-if .ensures, i .items-of .ensures, i .before .all-readable .ensures, i .before .before .asks-every .ensures, named-law d, items-length 1 d)
+    rw (c .refused-if2 .ensures, c .before .refused-if .ensures, i .items-of .ensures, i .before .all-numbers .ensures, i .before .before .asks-every .ensures, named-law d, items-length 1 d)
 
 pub read-refusal-spec : {M : Type 1} → statement M
 read-refusal-spec = tie.close (tie.spec (λ c κs. tt) (λ c κs. tt) (λ c κs. tt) (λ c κs. tt) (λ c κs. tt) returns)

@@ -1,44 +1,23 @@
 -- `modbus::read_reading` meets its contract. Assumes nothing.
-use mathlib.Core.Path.{refl, sym, _∙_}
+use mathlib.Core.Path.{refl}
 use denote.Ref.{now}
-use Rattle.model.specs.Registers.{readingGroup, readWords}
-use Rattle.model.specs.Modbus.{startOf, secondOf, quantityWrong}
-use Rattle.model.specs.Refusals.{reading}
-use Rattle.outcomes.proofs.Laws.{told-law}
 use Rattle.model.specs.Temperature.{readingWords}
+use Rattle.model.specs.Registers.{readingGroup, readWords}
+use Rattle.model.specs.Modbus.{startOf, secondOf}
+use Rattle.modbus_bodies.proofs.Laws.{read-law}
 use Rattle.modbus.proofs.read_reading.Statement.{statement}
 use Rattle.modbus.proofs.read_reading.Tie as tie
-use Rattle.modbus_bodies.proofs.Laws.{refused-8, passed-8}
 
 returns : tie.Need-returns
 unfolding readWords
 returns c =
-    let a = c .before .before .before .before .args in
-    let b = now (a .b) in
-    c .wrong-body .ensures ∙ refused-8 (a .m) (reading (a .m) (readWords readingGroup (readingWords (a .m .reading)) (startOf b) (secondOf b))) (quantityWrong 125 b) (sym (c .before .before .quantity-wrong .ensures) ∙ c .before .if1 .taken) (refl)
-
-returns-2 : tie.Need-returns-2
-unfolding readWords
-returns-2 c =
     let r = c .before in
     let second = r .before in
     let first = second .before in
-    let e = first .before in
-    let a = e .before .before .before .args in
+    let a = first .before .before .args in
     let b = now (a .b) in
-    rw (c .told .ensures, r .read-input .ensures, second .word-from2 .ensures, first .word-from .ensures)
-    (told-law (a .m) (readWords readingGroup (readingWords (a .m .reading)) (startOf b) (secondOf b))
-    ∙ passed-8 (a .m) (reading (a .m) (readWords readingGroup (readingWords (a .m .reading)) (startOf b) (secondOf b))) (quantityWrong 125 b) (sym (e .before .quantity-wrong .ensures) ∙ e .if1 .left))
+    rw (c .read-told .ensures, r .read-input .ensures, second .word-from2 .ensures, first .word-from .ensures)
+    (read-law 125 b (a .m) (readWords readingGroup (readingWords (a .m .reading)) (startOf b) (secondOf b)) refl)
 
 pub read-reading-spec : {M : Type 1} → statement M
-read-reading-spec =
-    tie.close
-    (tie.spec
-    (λ c κs. tt)
-    (λ c κs. tt)
-    returns
-    (λ c κs. tt)
-    (λ c κs. tt)
-    (λ c κs. tt)
-    (λ c κs. tt)
-    returns-2)
+read-reading-spec = tie.close (tie.spec (λ c κs. tt) (λ c κs. tt) (λ c κs. tt) (λ c κs. tt) returns)

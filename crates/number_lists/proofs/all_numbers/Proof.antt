@@ -7,29 +7,29 @@ use lib.ListN.{length, drop, drop-of-length-le}
 use borrow.Author.Tests.{not-true, not-false}
 use Rattle.lists.specs.Tests.{all}
 use Rattle.lists.proofs.Choices.{all-goes, all-stops, all-ends}
-use Rattle.model.specs.Counters.{isNumber}
 use Rattle.lists.proofs.ChunkLaws.{rest-first}
+use Rattle.number_lists.specs.Items.{hasNumber}
 use Rattle.number_lists.proofs.all_numbers.Statement.{statement}
 use Rattle.number_lists.proofs.all_numbers.Tie as tie
 
 abbrev Inv-loop : tie.InvT-loop
-Inv-loop d i₀ i = (i ≤ length d) × (all isNumber (drop i d) ≡ all isNumber d)
+Inv-loop place d i₀ i = (i ≤ length d) × (all (hasNumber place) (drop i d) ≡ all (hasNumber place) d)
 
 abbrev μ-loop : tie.MeasureT-loop
-μ-loop d i₀ i = length d - i
+μ-loop place d i₀ i = length d - i
 
 returns : tie.Need-returns Inv-loop μ-loop
 returns c =
     let at = c .before .before .before in
-    all-stops isNumber _ _ _ (rest-first _ _ (at .loop-test .taken)) (sym (c .before .is-number .ensures) ∙ not-true _ (c .if1 .taken)) ∙ at .before .loop .inv .1
+    all-stops (hasNumber (at .before .before .before .args .place)) _ _ _ (rest-first _ _ (at .loop-test .taken)) (sym (c .before .has-number .ensures) ∙ not-true _ (c .if1 .taken)) ∙ at .before .loop .inv .1
 
 loop-again : tie.Need-loop-again Inv-loop μ-loop
 loop-again c =
     let at = c .before .before .before in
-    (omega arith, all-goes isNumber _ _ _ (rest-first _ _ (at .loop-test .taken)) (sym (c .before .is-number .ensures) ∙ not-false _ (c .if1 .left)) ∙ at .before .loop .inv .1)
+    (omega arith, all-goes (hasNumber (at .before .before .before .args .place)) _ _ _ (rest-first _ _ (at .loop-test .taken)) (sym (c .before .has-number .ensures) ∙ not-false _ (c .if1 .left)) ∙ at .before .loop .inv .1)
 
 returns-2 : tie.Need-returns-2 Inv-loop μ-loop
-returns-2 c = all-ends isNumber _ (drop-of-length-le _ {i = c .before .loop .i} (c .loop-test .left)) ∙ c .before .loop .inv .1
+returns-2 c = all-ends (hasNumber (c .before .before .before .args .place)) _ (drop-of-length-le _ {i = c .before .loop .i} (c .loop-test .left)) ∙ c .before .loop .inv .1
 
 pub all-numbers-spec : {M : Type 1} → statement M
 all-numbers-spec =
