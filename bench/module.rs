@@ -104,7 +104,7 @@ impl Module {
         Module { modes, sampling, outputs, format: 0x61, mask, signature: 2, ..Module::fresh() }
     }
 
-    // Everything that samples change, and the bytes of the notices, added up.
+    // Counters, outputs and the bytes of the notices, added up.
     pub fn sum(&self, written: u64) -> u64 {
         let left = self.counters.iter().zip(&self.outputs).map(|(c, o)| *c as u64 + o.left as u64 + o.on as u64);
         left.fold(written, u64::wrapping_add)

@@ -1,4 +1,4 @@
-// What requests on either port come to for the counters, the modes and the sampling number: decoded, judged, applied.
+// What Spinel's instructions come to for the counters, the modes and the sampling number: decoded, judged, applied.
 ghost use mathlib.Core.Path.{_≡_};
 ghost use mathlib.Core.Bool.{not};
 ghost use Rattle.lists.specs.Entries.{entries};

@@ -14,7 +14,9 @@ use Rattle.model.specs.Samples.{counterBits, counterBytes}
 use Rattle.model.specs.Counters.{isNumber, everyNumber, itemsOf, zeroes, numberIn, parameters, readOne, valuesRead, readCounters}
 use Rattle.model.proofs.Short.{counters-short}
 use Rattle.counter_reads.specs.declared.Collected.{Collected}
-use Rattle.counter_reads.specs.Reading.{readable, asksEvery, everyOf, readStep, readRest}
+use Rattle.counter_reads.specs.Reading.{asksEvery, everyOf, readStep, readRest}
+use Rattle.number_lists.specs.Items.{hasNumber}
+use Rattle.number_lists.specs.declared.Place.the-variants.{LowBits}
 
 -- one parameter after the other is all of them
 pub read-steps : (ps : List ℕ) (r : Collected) → foldl readStep r ps ≡ readRest r ps
@@ -34,8 +36,8 @@ unfolding asksEvery parameters
 named-own d h = rw h
 
 -- whether each parameter names an input: a single number 0 stands for numbers that do
-pub named-law : (d : List ℕ) → (asksEvery d || all readable d) ≡ all readable (parameters d)
-unfolding asksEvery parameters readable all within
+pub named-law : (d : List ℕ) → (asksEvery d || all (hasNumber LowBits) d) ≡ all (hasNumber LowBits) (parameters d)
+unfolding asksEvery parameters all within
 named-law d = go (eqb (length d) 1 && eqb (numberIn (getD d 0 0)) 0) (zeroes (getD d 0 0))
   where
     go : (b z : Bool) → (b || all (λ p. isNumber (numberIn p)) d) ≡ all (λ p. isNumber (numberIn p)) (cond b (cond z (map (λ n. 128 + n) everyNumber) everyNumber) d)

@@ -7,12 +7,8 @@ use lib.ListN.{length, getD}
 use Rattle.lists.specs.Data.{dataOf, extended}
 use Rattle.lists.specs.Numbers.{bytes}
 use Rattle.model.specs.Samples.{counterBits, counterBytes}
-use Rattle.model.specs.Counters.{isNumber, everyNumber, zeroes, numberIn, readOne, valuesRead}
+use Rattle.model.specs.Counters.{everyNumber, zeroes, numberIn, readOne, valuesRead}
 use Rattle.counter_reads.specs.declared.Collected.{Collected}
-
--- the number in a parameter of 60H is one
-unfoldable pub readable : ℕ → Bool
-readable p = isNumber (numberIn p)
 
 -- a single parameter with number 0, the two high bits aside
 unfoldable pub asksEvery : List ℕ → Bool

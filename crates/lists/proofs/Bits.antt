@@ -1,4 +1,4 @@
--- The number of some bits, from the last bit down: one turn of a loop over sixteen elements that are each read as a bit. Assumes nothing.
+-- The number of some bits: one turn of a loop over sixteen elements, from the last down, and parts of them by their number. Assumes nothing.
 use Prim.Native.Nat.{ℕ, zero, suc, _+_, _*_, _-_, _^_, _<_, _≤_, _/_, _%_}
 use native.Mathlib.Nat.{pow-suc, le-of-suc-le-suc, not-suc-le-zero, pow-succ', mod-lt, mod-one, mod-eq-of-lt, zero-mod, zero-div, div-one, div-add-mod, div-div-eq-div-mul, mul-add-mod-self-left}
 use native.Mathlib.Omega.{arith}

@@ -48,7 +48,20 @@ rest-whole k l = take-all (length l - k) (drop k l) (simp length-drop (omega ari
 pub piece : {A : Type 0} (k i : ℕ) (l : List A) (d : A) → i < length l → take (suc k) (drop i l) ≡ getD l i d ∷ take k (drop (i + 1) l)
 piece k i l d h = rw (drop-cons l i d h, add-one)
 
--- the same for entries
+-- from place i, one entry and the rest
 pub entries-cons : (w i : ℕ) (d : List ℕ) → 0 < w → i + w ≤ length d → entries w (drop i d) ≡ entryOf (take w (drop i d)) ∷ entries w (drop (i + w) d)
 unfolding entries
 entries-cons w i d p h = ap (map entryOf) (chunks-cons w i d p h)
+
+-- triples, byte by byte
+module _ (l : List ℕ) (i : ℕ) where
+  pub triples-cons : i + 3 ≤ length l → chunks 3 (drop i l) ≡ (getD l i 0 ∷ getD l (i + 1) 0 ∷ getD l (i + 2) 0 ∷ []) ∷ chunks 3 (drop (i + 3) l)
+  triples-cons h =
+      let two : i + 1 + 1 ≡ i + 2 = omega arith in
+      chunks-cons 3 i l (omega arith) h
+      ∙ ap (_∷ chunks 3 (drop (i + 3) l))
+      (piece 2 i l 0 (omega arith)
+      ∙ ap (getD l i 0 ∷_) (piece 1 (i + 1) l 0 (omega arith) ∙ rw two (ap (getD l (i + 1) 0 ∷_) (piece 0 (i + 2) l 0 (omega arith)))))
+
+  pub triples-none : length l < i + 3 → chunks 3 (drop i l) ≡ []
+  triples-none h = chunks-none 3 i l h (omega arith)

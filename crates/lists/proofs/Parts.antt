@@ -6,8 +6,7 @@ use mathlib.Core.Path.{_≡_, refl, sym, ap, _∙_}
 use mathlib.Core.List.{List, [], _∷_, _++_}
 use lib.ListN.{length, getD, take, drop, replicate, length-drop}
 use lib.Seq.{getD-take, getD-drop, length-take-le}
-use Rattle.lists.specs.Chunks.{chunks}
-use Rattle.lists.proofs.ChunkLaws.{chunks-cons, chunks-none, piece}
+use Rattle.lists.proofs.ChunkLaws.{piece}
 
 -- n elements from place k on
 module _ (ws : List ℕ) (k n : ℕ) (fits : k + n ≤ length ws) where
@@ -56,16 +55,3 @@ drop-zeros (suc i) (suc n) = drop-zeros i n ∙ ap (λ k. replicate k 0) (let le
 -- two bytes from place i on
 pub two-from : (d : List ℕ) (i : ℕ) → i + 2 ≤ length d → take 2 (drop i d) ≡ getD d i 0 ∷ getD d (i + 1) 0 ∷ []
 two-from d i h = rw (piece 1 i d 0 (omega arith), piece 0 (i + 1) d 0 (omega arith))
-
--- One turn of a loop over triples of bytes, and its end.
-module _ (l : List ℕ) (i : ℕ) where
-  pub triples-cons : i + 3 ≤ length l → chunks 3 (drop i l) ≡ (getD l i 0 ∷ getD l (i + 1) 0 ∷ getD l (i + 2) 0 ∷ []) ∷ chunks 3 (drop (i + 3) l)
-  triples-cons h =
-      let two : i + 1 + 1 ≡ i + 2 = omega arith in
-      chunks-cons 3 i l (omega arith) h
-      ∙ ap (_∷ chunks 3 (drop (i + 3) l))
-      (piece 2 i l 0 (omega arith)
-      ∙ ap (getD l i 0 ∷_) (piece 1 (i + 1) l 0 (omega arith) ∙ rw two (ap (getD l (i + 1) 0 ∷_) (piece 0 (i + 2) l 0 (omega arith)))))
-
-  pub triples-none : length l < i + 3 → chunks 3 (drop i l) ≡ []
-  triples-none h = chunks-none 3 i l h (omega arith)

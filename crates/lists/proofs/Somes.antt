@@ -68,12 +68,6 @@ mapi-same f (x ∷ l) d h = first (h 0 (omega arith)) (mapi-same (λ i. f (suc i
     first : f 0 x ≡ x → mapi (λ i. f (suc i)) l ≡ l → f 0 x ∷ mapi (λ i. f (suc i)) l ≡ x ∷ l
     first e q = rw (e, q)
 
--- an indexed map of an indexed map
-pub mapi-mapi : {A B C : Type 0} (g : ℕ → B → C) (f : ℕ → A → B) (l : List A) → mapi g (mapi f l) ≡ mapi (λ i x. g i (f i x)) l
-unfolding mapi
-mapi-mapi g f [] = refl
-mapi-mapi g f (x ∷ l) = ap (g 0 (f 0 x) ∷_) (mapi-mapi (λ i. g (suc i)) (λ i. f (suc i)) l)
-
 -- some of a list of tests passed
 pub some-of : (l : List Bool) → any (λ b. b) l ≡ someBelow (λ i. getD l i false) (length l)
 some-of l = ap (any (λ b. b)) (sym (mapi-same (λ i b. b) l false (λ i h. refl))) ∙ some-any (λ i b. b) l false

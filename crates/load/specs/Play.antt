@@ -72,6 +72,6 @@ unfoldable pub sumOf : List ℕ → List Output → ℕ → ℕ → ℕ
 sumOf counters outputs n zero = n
 sumOf counters outputs n (suc i) = (sumOf counters outputs n i + leftBy (getD counters i 0) (getD outputs i freshOutput)) % 2 ^ 64
 
--- everything that samples change: the bytes of the notices, counters and outputs
+-- the bytes of the notices, counters and outputs
 abbrev pub summed : Played → ℕ
 summed p = sumOf (p .after .inputs .counters) (p .after .outputs) (p .written) 16

@@ -148,7 +148,7 @@ fn left_by(counter: u16, o: Output) -> u64
     both
 }
 
-// Everything that samples change, added up: a compiler may leave out what nobody asks for.
+// Counters, outputs and the bytes of the notices, added up: a compiler may leave out what nobody asks for.
 fn sum(p: Played) -> u64
     ensures { λ r. ⌜ r ≡ summed p ⌝ }
 {

@@ -1,4 +1,4 @@
-// The Modbus port: each function and register group on the part of the state that it may change, the permission, and the reply. `handle` is pure.
+// The Modbus port: function and register range pick what serves a frame that passes its checks. `handle` is pure.
 ghost use mathlib.Core.Path.{_≡_};
 ghost use mathlib.Core.List.{map};
 ghost use Prim.Native.Nat.{_≤_};

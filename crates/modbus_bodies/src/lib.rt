@@ -1,4 +1,4 @@
-// What every Modbus function shares: the checks of a body, and the echo of a write.
+// What Modbus functions share: the checks of a body, what a read comes to, the echo of a write, 8 and 9.
 ghost use mathlib.Core.Path.{_≡_};
 ghost use Rattle.model.specs.Modbus.{quantityWrong, countWrong};
 ghost use Rattle.outcomes.specs.Parts.{plain};

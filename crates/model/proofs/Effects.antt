@@ -4,7 +4,7 @@ use native.Mathlib.Nat.{add-zero}
 use native.Mathlib.Omega.{arith}
 use mathlib.Core.Path.{_≡_, refl, sym, ap, _∙_}
 use mathlib.Core.List.{List, [], _∷_, _++_, foldl, map}
-use mathlib.Core.Bool.{Bool, true, false, cond, _&&_, _||_}
+use mathlib.Core.Bool.{Bool, true, false, cond, _&&_}
 use lib.ListN.{length, getD, set, drop, length-set, getD-replicate, length-map, List·getD-map}
 use lib.Seq.{getD-set-same, getD-set-other, getD-drop, drop-drop}
 use lib.Dec.{leb, eqb}
@@ -13,7 +13,7 @@ use Rattle.lists.specs.Tests.{all}
 use Rattle.lists.specs.Walk.{allPass}
 use Rattle.lists.specs.Numbers.{bytes}
 use Rattle.lists.specs.declared.Entry.{Entry}
-use Rattle.lists.proofs.Choices.{and-left, and-right, within-low, all-first, all-rest}
+use Rattle.lists.proofs.Choices.{and-left, and-right, within-low, all-first, all-rest, either}
 use Rattle.model.specs.declared.Line.{Line}
 use Rattle.model.specs.State.{line, freshLine}
 use Rattle.model.specs.Counters.{isNumber, zeroes, numberIn, readOne, valuesRead, deductible, deductOne, clearedCounters, modeSettable, setMode, runsEnded}
@@ -168,12 +168,6 @@ length-clearOne : (cs : List ℕ) (e : Entry) → length (clearOne cs e) ≡ len
 unfolding clearOne
 length-clearOne cs e = length-set cs _ _
 
-cond-or : (a b : Bool) (x y : ℕ) → cond b x (cond a x y) ≡ cond (a || b) x y
-cond-or true true x y = refl
-cond-or true false x y = refl
-cond-or false true x y = refl
-cond-or false false x y = refl
-
 -- every number is at least 1
 abbrev Numbered : List Entry → Type 0
 Numbered es = all (λ e. leb 1 (e .number)) es ≡ true
@@ -185,7 +179,7 @@ zeros-agree i (e ∷ es) cs h k =
     let l : 1 ≤ e .number = leb-true 1 (e .number) (all-first (λ e. leb 1 (e .number)) e es k) in
     zeros-agree i es (set cs (e .number - 1) 0) (rw length-set h) (all-rest (λ e. leb 1 (e .number)) e es k)
     ∙ ap (cond (named i es) 0) (set-value i (e .number) 0 cs h l)
-    ∙ cond-or (eqb (e .number) (suc i)) (named i es) 0 (getD cs i 0)
+    ∙ either (eqb (e .number) (suc i)) (named i es) 0 (getD cs i 0)
 
 -- the changes -----------------------------------------------------------------
 

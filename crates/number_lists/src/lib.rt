@@ -1,9 +1,7 @@
 // Lists of numbers: how many items a request has, the numbers of inputs and outputs, and those that a list read names.
 ghost use mathlib.Core.Path.{_≡_};
-ghost use Prim.Native.Nat.{_-_, _/_, _%_, _<_};
 ghost use lib.ListN.{length, getD};
 ghost use Rattle.lists.specs.Tests.{all};
-ghost use Rattle.lists.specs.Entries.{entry};
 ghost use Rattle.model.specs.Counters.{isNumber, everyNumber, listed};
 ghost use Rattle.number_lists.specs.Items.{itemsIn, hasNumber, asksAll, listRefusal};
 

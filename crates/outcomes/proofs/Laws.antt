@@ -8,22 +8,14 @@ use Rattle.lists.specs.Data.{dataOf}
 use Rattle.lists.specs.declared.Data.{Data}
 use Rattle.encoding.specs.Answers.{toldOf}
 use Rattle.model.specs.declared.Module.{Module}
-use Rattle.model.specs.Refusals.{Request, refuse, onPart, reading, Done, refused, refusalOf, judged, Out, silent, ifPasses}
-use Rattle.model.proofs.Judged.{judged-either, judged-part}
+use Rattle.model.specs.Refusals.{Request, refuse, onPart, reading, refused, refusalOf, judged, Out, silent, ifPasses}
+use Rattle.model.proofs.Judged.{judged-part}
 use Rattle.outcomes.specs.Parts.{servedOf, plain, toldAbout, settled}
-
--- a request without data is answered without
-no-data : {P : Type 0} (p : P) (q : Request P) → q .reply ≡ [] → judged p q .reply ≡ []
-no-data {P} p q e = judged-either (λ (o : Done P). o .reply ≡ []) p q (λ _ _. refl) (λ _. e)
 
 module _ {P : Type 0} (put : P → Module) (p : P) (q : Request P) where
   -- a part with its reply's data
   pub whole-law : record { refusal = judged p q .refusal; after = put (judged p q .part); body = dataOf (judged p q .reply) } ≡ servedOf (judged (put p) (onPart put q))
   whole-law = sym (ap servedOf (judged-part put p q))
-
-  -- a part without data
-  pub part-law : q .reply ≡ [] → plain (judged p q .refusal) (put (judged p q .part)) ≡ servedOf (judged (put p) (onPart put q))
-  part-law e = ap (λ (l : List ℕ). record { refusal = judged p q .refusal; after = put (judged p q .part); body = dataOf l }) (sym (no-data p q e)) ∙ whole-law
 
 -- settled by its number
 module _ (m after : Module) (body : Data) where

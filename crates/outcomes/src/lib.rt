@@ -21,7 +21,7 @@ pub struct Served {
     pub body: Data,
 }
 
-// What a frame comes to, whatever the lent buffer: the same, with the reply's bytes.
+// What a frame or a sample comes to, whatever the lent buffer: the same, with the reply's bytes.
 pub struct Handled {
     pub refusal: u8,
     pub after: Module,

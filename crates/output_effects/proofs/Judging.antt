@@ -1,4 +1,4 @@
--- Conditions that are judged one after another. Assumes nothing.
+-- One reason more to refuse by 11. Assumes nothing.
 use Prim.Native.Nat.{ℕ}
 use mathlib.Core.Path.{_≡_}
 use mathlib.Core.Bool.{Bool, cond, _||_}

@@ -1,4 +1,4 @@
-// What requests on either port come to for the outputs and the presets: decoded, judged, applied.
+// What Spinel's instructions come to for the outputs and the presets, and the states that they read: decoded, judged, applied.
 ghost use mathlib.Core.Path.{_≡_};
 ghost use mathlib.Core.Bool.{not};
 ghost use mathlib.Core.List.{map};

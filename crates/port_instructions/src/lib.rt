@@ -1,4 +1,4 @@
-// What requests on either port come to for the ports themselves, the notice and the reset: decoded, judged, applied.
+// What Spinel's instructions come to for the port itself, the notice and the reset: decoded, judged, applied.
 ghost use mathlib.Core.Path.{_≡_};
 ghost use Rattle.model.specs.State.{withSpinel, withNotice};
 ghost use Rattle.model.specs.Refusals.{onPart, reading, judged};

@@ -1,4 +1,4 @@
--- Words of a group: a part of a list, and where a group begins. Assumes nothing.
+-- Words of a group in a reply, and a group whose words are the first of two lists. Assumes nothing.
 use Prim.Native.Nat.{ℕ, _+_, _-_, _*_, _≤_}
 use native.Mathlib.Omega.{arith}
 use native.Mathlib.Nat.{le-of-eq}

@@ -1,4 +1,4 @@
--- The answers of groups of words, as the code gives them.
+-- Words in an array of sixteen, as the code holds them.
 use Prim.Native.Nat.{ℕ, _+_}
 use mathlib.Core.List.{List, _++_}
 use lib.ListN.{replicate}

@@ -1,7 +1,6 @@
 // The framing of both ports' replies and exceptions (01, Frames), and the ACK or code that tells a refusal.
 ghost use mathlib.Core.Path.{_≡_};
 ghost use Prim.Native.Nat.{_+_, _≤_, min};
-ghost use lib.ListN.{length};
 ghost use lib.Seq.{paste};
 ghost use Rattle.lists.specs.Data.{padded, dataOf};
 ghost use Rattle.model.specs.Frames.{exceptionFunction, exceptionReply};

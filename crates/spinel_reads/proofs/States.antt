@@ -1,4 +1,4 @@
--- The outputs' states as two bytes. Assumes nothing.
+-- States as two bytes. Assumes nothing.
 use Prim.Native.Nat.{ℕ}
 use native.Mathlib.Omega.{arith}
 use mathlib.Core.Path.{_≡_, refl}

@@ -1,4 +1,4 @@
-// What requests on either port come to for the thermostats, and what they read of the temperature: decoded, judged, applied.
+// What Spinel's instructions come to for the thermostats, and what they read of the temperature: decoded, judged, applied.
 ghost use mathlib.Core.Path.{_≡_};
 ghost use Rattle.model.specs.State.{withThermostats};
 ghost use Rattle.model.specs.Refusals.{onPart, reading, judged};

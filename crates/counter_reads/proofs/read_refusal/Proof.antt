@@ -3,13 +3,12 @@ use denote.Ref.{now}
 use Rattle.model.specs.Refusals.{refusalOf}
 use Rattle.model.specs.Counters.{readCounters}
 use Rattle.number_lists.proofs.Lists.{items-length}
-use Rattle.counter_reads.specs.Reading.{readable}
 use Rattle.counter_reads.proofs.Readings.{named-law}
 use Rattle.counter_reads.proofs.read_refusal.Statement.{statement}
 use Rattle.counter_reads.proofs.read_refusal.Tie as tie
 
 returns : tie.Need-returns
-unfolding readCounters refusalOf readable
+unfolding readCounters refusalOf
 returns c cs =
     let i = c .before .before in
     let d = now (i .before .before .before .before .args .d) in

@@ -1,3 +1,4 @@
+-- `heating::take_reading` meets its contract. Assumes nothing.
 use mathlib.Core.Path.{_≡_}
 use mir.Syntax.{w16}
 use mir.Val.{SFits}

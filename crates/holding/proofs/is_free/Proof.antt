@@ -1,3 +1,4 @@
+-- `holding::is_free` meets its contract. Assumes nothing.
 use mir.Syntax.{w16}
 use mir.Val.{SFits}
 use mir.Facts.{toZ-ofZ}

@@ -1,3 +1,4 @@
+-- `lines::count` meets its contract. Assumes nothing.
 use Rattle.model.specs.Samples.{counted}
 use Rattle.lines.proofs.count.Statement.{statement}
 use Rattle.lines.proofs.count.Tie as tie

@@ -1,3 +1,4 @@
+-- `outputs::pulse` meets its contract. Assumes nothing.
 use borrow.Author.Needs.{needs}
 use borrow.Author.Tests.{eq-eqb, ne-eqb}
 use Rattle.model.specs.Outputs.{pulsed}

@@ -7,7 +7,7 @@ use Rattle.lists.specs.Tests.{all}
 use Rattle.lists.proofs.Choices.{all-goes, all-stops, all-ends}
 use Rattle.lists.specs.Chunks.{chunks}
 use Rattle.model.specs.Outputs.{presetSettable}
-use Rattle.lists.proofs.Parts.{triples-cons, triples-none}
+use Rattle.lists.proofs.ChunkLaws.{triples-cons, triples-none}
 use Rattle.preset_effects.proofs.all_settable.Statement.{statement}
 use Rattle.preset_effects.proofs.all_settable.Tie as tie
 

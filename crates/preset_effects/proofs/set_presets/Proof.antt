@@ -7,7 +7,7 @@ use lib.ListN.{length, drop}
 use Rattle.lists.proofs.Walks.{fold-turn}
 use Rattle.lists.specs.Chunks.{chunks}
 use Rattle.model.specs.Outputs.{setPreset}
-use Rattle.lists.proofs.Parts.{triples-cons, triples-none}
+use Rattle.lists.proofs.ChunkLaws.{triples-cons, triples-none}
 use Rattle.preset_effects.proofs.set_presets.Statement.{statement}
 use Rattle.preset_effects.proofs.set_presets.Tie as tie
 

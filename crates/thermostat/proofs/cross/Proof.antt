@@ -1,3 +1,4 @@
+-- `thermostat::cross` meets its contract. Assumes nothing.
 use mathlib.Core.Path.{_≡_}
 use mir.Facts.{toZ-ofZ}
 use Rattle.model.specs.Temperature.{crossed, crossing}

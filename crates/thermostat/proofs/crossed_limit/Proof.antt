@@ -1,3 +1,4 @@
+-- `thermostat::crossed_limit` meets its contract. Assumes nothing.
 use mathlib.Core.Path.{sym, _∙_}
 use mir.Syntax.{w16}
 use mir.Val.{SFits}

@@ -1,3 +1,4 @@
+-- `thermostat::level` meets its contract. Assumes nothing.
 use mathlib.Core.Path.{_≡_}
 use mathlib.Core.Bool.{true, false}
 use lib.Signed.{ltZ}
