@@ -16,7 +16,7 @@ use Rattle.model.proofs.Short.{counters-short}
 use Rattle.counter_reads.specs.declared.Collected.{Collected}
 use Rattle.counter_reads.specs.Reading.{asksEvery, everyOf, readStep, readRest}
 use Rattle.number_lists.specs.Items.{hasNumber}
-use Rattle.number_lists.specs.declared.Place.the-variants.{LowBits}
+use Rattle.number_lists.specs.declared.NumberBits.the-variants.{LowSix}
 
 -- one parameter after the other is all of them
 pub read-steps : (ps : List ℕ) (r : Collected) → foldl readStep r ps ≡ readRest r ps
@@ -36,7 +36,7 @@ unfolding asksEvery parameters
 named-own d h = rw h
 
 -- whether each parameter names an input: a single number 0 stands for numbers that do
-pub named-law : (d : List ℕ) → (asksEvery d || all (hasNumber LowBits) d) ≡ all (hasNumber LowBits) (parameters d)
+pub named-law : (d : List ℕ) → (asksEvery d || all (hasNumber LowSix) d) ≡ all (hasNumber LowSix) (parameters d)
 unfolding asksEvery parameters all within
 named-law d = go (eqb (length d) 1 && eqb (numberIn (getD d 0 0)) 0) (zeroes (getD d 0 0))
   where

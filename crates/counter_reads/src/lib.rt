@@ -6,7 +6,7 @@ ghost use Rattle.model.specs.Refusals.{refusalOf};
 ghost use Rattle.model.specs.Counters.{parameters, readOne, readCounters};
 ghost use Rattle.counter_reads.specs.Reading.{asksEvery, everyOf, readStep, readStart, readRest};
 use lists::Data;
-use number_lists::Place;
+use number_lists::NumberBits;
 
 // 60H: the counters after it, and the reply's data.
 pub struct Collected {
@@ -101,7 +101,7 @@ fn read_each(cs: [u16; 16], ps: &[u8]) -> Collected
 pub fn read_refusal(d: &[u8]) -> u8
     ensures { λ r. ⌜ ((cs : List ℕ) → r ≡ refusalOf (readCounters (now (d .entry)) cs)) ⌝ }
 {
-    let named = asks_every(d) | number_lists::all_numbers(Place::LowBits, d);
+    let named = asks_every(d) | number_lists::all_numbers(NumberBits::LowSix, d);
     encoding::refused_if(
         !number_lists::items_of(1, d.len()),
         8,

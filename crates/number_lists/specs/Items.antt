@@ -6,17 +6,17 @@ use lib.Dec.{eqb}
 use lib.ListN.{length, getD}
 use Rattle.lists.specs.Tests.{within, all}
 use Rattle.model.specs.Counters.{isNumber, numberIn, mostItems, itemsOf, listed}
-use Rattle.number_lists.specs.declared.Place.{Place}
-use Rattle.number_lists.specs.declared.Place.the-variants.{Whole, LowBits}
+use Rattle.number_lists.specs.declared.NumberBits.{NumberBits}
+use Rattle.number_lists.specs.declared.NumberBits.the-variants.{Whole, LowSix}
 
 -- `itemsOf` of a list of n bytes
 unfoldable pub itemsIn : ℕ → ℕ → Bool
 itemsIn w n = eqb (n % w) 0 && within 1 mostItems (n / w)
 
 -- a byte's number is one of an input or an output
-abbrev pub hasNumber : Place → ℕ → Bool
+abbrev pub hasNumber : NumberBits → ℕ → Bool
 hasNumber Whole = isNumber
-hasNumber LowBits = λ p. isNumber (numberIn p)
+hasNumber LowSix = λ p. isNumber (numberIn p)
 
 -- a single 00, which `listed` takes for all
 unfoldable pub asksAll : List ℕ → Bool

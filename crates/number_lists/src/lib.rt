@@ -5,10 +5,10 @@ ghost use Rattle.lists.specs.Tests.{all};
 ghost use Rattle.model.specs.Counters.{isNumber, everyNumber, listed};
 ghost use Rattle.number_lists.specs.Items.{itemsIn, hasNumber, asksAll, listRefusal};
 
-// Where a byte has its number: it is the number, or, in a parameter of 60H, its low six bits are.
-pub enum Place {
+// Which bits of a byte are its number: all, or, in a parameter of 60H, the low six.
+pub enum NumberBits {
     Whole,
-    LowBits,
+    LowSix,
 }
 
 // Whether n bytes are 1 to 12 items of w bytes each, and nothing over.
@@ -28,23 +28,23 @@ pub fn is_number(n: u8) -> bool
     (1 <= n) & (n <= 16)
 }
 
-// Whether a byte has a number there.
-fn has_number(place: Place, p: u8) -> bool
-    ensures { λ r. ⌜ r ≡ hasNumber place p ⌝ }
+// Whether those bits of a byte are the number of an input or an output.
+fn has_number(bits: NumberBits, p: u8) -> bool
+    ensures { λ r. ⌜ r ≡ hasNumber bits p ⌝ }
 {
-    match place {
-        Place::Whole => is_number(p),
-        Place::LowBits => is_number(p % 64),
+    match bits {
+        NumberBits::Whole => is_number(p),
+        NumberBits::LowSix => is_number(p % 64),
     }
 }
 
-// Whether every byte has.
-pub fn all_numbers(place: Place, d: &[u8]) -> bool
-    ensures { λ r. ⌜ r ≡ all (hasNumber place) (now (d .entry)) ⌝ }
+// Whether those of every byte are one.
+pub fn all_numbers(bits: NumberBits, d: &[u8]) -> bool
+    ensures { λ r. ⌜ r ≡ all (hasNumber bits) (now (d .entry)) ⌝ }
 {
     let mut i = 0;
     while i < d.len() {
-        if !has_number(place, d[i]) {
+        if !has_number(bits, d[i]) {
             return false;
         }
         i += 1;
@@ -96,7 +96,7 @@ pub fn all_listed(d: &[u8]) -> bool
     if is_all(d) {
         return true;
     }
-    all_numbers(Place::Whole, d)
+    all_numbers(NumberBits::Whole, d)
 }
 
 // Why a list read is refused, or 0.

@@ -16,7 +16,7 @@ use model::Output;
 use model::Preset;
 use model::Seconds;
 use model::Thermostat;
-use number_lists::Place;
+use number_lists::NumberBits;
 
 // What a list read shows: inputs' modes (6BH), outputs' states and pulses (33H), presets (36H), outputs' modes (38H), groups of thermostats (1BH).
 enum Shown {
@@ -158,7 +158,7 @@ pub fn read_thermostats(d: &[u8], hs: [Thermostat; 16]) -> Told
     if 12 < d.len() {
         return encoding::refuse(8);
     }
-    if !number_lists::all_numbers(Place::Whole, d) {
+    if !number_lists::all_numbers(NumberBits::Whole, d) {
         return encoding::refuse(11);
     }
     encoding::tell(show_groups(hs, d))
