@@ -68,6 +68,11 @@ fn check_modbus(own: u8, frame: &[u8], room: usize) -> Result<(), u8> {
     }
 }
 
+// Whether two triples have the same number.
+fn named_twice(data: &[u8]) -> bool {
+    (0..data.len()).step_by(3).any(|i| (i + 3..data.len()).step_by(3).any(|j| data[i] == data[j]))
+}
+
 impl Module {
     // Counters that cover thousands of deductions, each another number.
     pub fn ready() -> Module {
@@ -112,6 +117,7 @@ impl Module {
             [0] => self.counters = [0; 16],
             [_] => return Err(11),
             _ if data.len() % 3 != 0 || !(1..=12).contains(&(data.len() / 3)) => return Err(8),
+            _ if named_twice(data) => return Err(13),
             _ => return self.deduct(data.chunks_exact(3).map(|t| (t[0], word(&t[1..])))),
         }
         Ok(0)

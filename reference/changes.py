@@ -24,7 +24,7 @@ SIDES = {"&&": "left right", "||": "left right", "+": "left right", "++": "left 
 PUT = "Lines Modes Counters Sampling Inputs Outputs Settings Presets Thermostats Notice Spinel Modbus".split()
 LEFT_OUT = {"not": (1, 0), "set": (3, 0), "take": (2, 1), "drop": (2, 1), "foldl": (3, 1), "permit": (2, 1), "usedUp": (2, 1),
             "reset": (1, 0), "runsEnded": (1, 0), "answering": (2, 1), "withReading": (4, 0), **{"with" + part: (2, 0) for part in PUT}}
-REFUSALS = range(7, 13)  # what a request may be refused by
+REFUSALS = range(7, 14)  # what a request may be refused by
 
 
 @dataclass(frozen=True)

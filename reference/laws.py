@@ -1,5 +1,5 @@
 """What is proved of every state and call, tried on the states and calls of the cases: Refusals and Permissions of Demand1, PartsKept of
-Parts, Conserved of Cycles, and the step of Wraps; and how every request is judged, tried on each set of the conditions 7 to 12.
+Parts, Conserved of Cycles, and the step of Wraps; and how every request is judged, tried on each set of the conditions 7 to 13.
 """
 import itertools
 
@@ -7,7 +7,7 @@ from held import Fact, Held
 from translate import python
 
 LONG = 400  # calls: demand 3 is tried on cases of at most so many
-REFUSALS = range(7, 13)  # what a request may be refused by
+REFUSALS = range(7, 14)  # what a request may be refused by
 
 
 def first_of(checks):

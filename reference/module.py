@@ -1,4 +1,4 @@
-"""Document 01 in Python, written from the paper alone: the expected bytes of the tables in crates/model/proofs, and of the programs' stored
+"""Documents 01 and 02 (E1) in Python, written from the papers alone: the expected bytes of the tables in crates/model/proofs, and of the programs' stored
 output where 01 gives another reply than a source, are worked out with it. None is captured from the definitions or from the proved code.
 
 Module has a method for each call: sample, temperature, spinel, modbus. Each answers the refusal's number (0: accepted) and the reply's bytes.
@@ -144,7 +144,7 @@ class Module:
             r, ack = 0, 0
         except Ref as e:
             r, d = e.n, b''
-            ack = {7: 2, 8: 3, 10: 4, 11: 3, 12: 3}[r]
+            ack = {7: 2, 8: 3, 10: 4, 11: 3, 12: 3, 13: 3}[r]
         if a == 0xFF: return r, b''
         return r, spin(own, sig, ack, d)
 
@@ -261,6 +261,7 @@ class Module:
             if d[0]: raise Ref(11)
             self.cnt = [0]*16
             return b''
+        if len(set(d[::3])) < len(d[::3]): raise Ref(13)
         for j in range(0, len(d), 3):
             o, v = d[j], d[j+1]*256 + d[j+2]
             if not 1 <= o <= 16 or v > self.cnt[o-1]: raise Ref(11)

@@ -1,4 +1,4 @@
-"""The closed cases that the tables of crates/model/proofs hold the definitions to: lists of calls, written from document 01.
+"""The closed cases that the tables of crates/model/proofs hold the definitions to: lists of calls, written from documents 01 and 02.
 
 A case is a name, what it shows, the state it starts from, and its calls. What the calls answer is worked out by module.py; typed here are
 the cases A to J of the rack, cases that do not start from a fresh module, the tally's numbers, and the rows about claims. tables.py writes the cases as antt; sweep plays them on changed definitions.
@@ -186,8 +186,8 @@ RACK = [
 COUNT3 = [S(0x6A, 1, 3, 2, 3), S(0x62, 1)] + samples(3, 0, 3)
 
 WITNESSES = [
-    case("deductsAfterJudging", "slip: deducting while still judging. Counters 3, 3; 2 and 1, then 2 again from the first: 11, still 3, 3",
-         COUNT3, S(0x61, 1, 0, 2, 2, 0, 1, 1, 0, 2), S(0x60, 1, 2)),
+    case("deductsAfterJudging", "slip: deducting while still judging. Counters 3, 3, 0; 2, 1 and 1 from them: 11, still 3, 3",
+         COUNT3, S(0x61, 1, 0, 2, 2, 0, 1, 3, 0, 1), S(0x60, 1, 2)),
     case("countsStableChanges", "slip: counting every change of a sample. Six changes, none of them 20 samples long: no edge",
          S(0x6A, 1, 3), samples(1, 0, 1, 0, 1, 0), S(0x31), S(0x60, 1)),
     case("broadcastClearsNothing", "slip: a 60H to all that clears. It is refused by 6, and the counter is still 3",
@@ -319,9 +319,25 @@ COUNTERS = [
          S(0x60, 1, 2, 16)),
     case("deducted", "61H: amounts up to the counter, input 16, amount 0, 12 triples; one more: 11; nothing changes then",
          COUNTED, S(0x61, 16, 0, 2), S(0x61, 16, 0, 1), S(0x61, 16, 0, 1), S(0x61, 3, 0, 0), S(0x61, 1, 0, 4), S(0x61, 1, 1, 0),
-         S(0x60, 1, 2, 16), S(0x61, *[1, 0, 0] * 11, 1, 0, 3), S(0x60, 1, 2)),
-    case("deductedTwice", "61H: amounts of one input add up, on the copy from left to right",
-         COUNTED, S(0x61, 1, 0, 2, 1, 0, 2), S(0x61, 1, 0, 1, 2, 0, 2, 1, 0, 2), S(0x60, 1, 2), S(0x61, 2, 0, 0, 2, 0, 1), S(0x60, 1, 2)),
+         S(0x60, 1, 2, 16), S(0x61, *[b for k in range(12, 1, -1) for b in (k, 0, 0)], 1, 0, 3), S(0x60, 1, 2)),
+    case("eachJudged", "61H: a number or an amount at fault, first, in the middle or last of the list: 11, and nothing changes",
+         COUNTED, S(0x61, 1, 0, 4, 2, 0, 1), S(0x61, 1, 0, 1, 2, 0, 3, 16, 0, 1), S(0x61, 1, 0, 1, 2, 0, 1, 16, 0, 2), S(0x61, 1, 0, 0, 2, 0, 0, 3, 0, 0, 16, 0, 2),
+         S(0x61, 1, 0, 0, 2, 0, 0, 3, 0, 0, 17, 0, 0), S(0x61, 0, 0, 0, 1, 0, 1, 2, 0, 1), S(0x60, 1, 2, 16)),
+    case("twelveDeducted", "61H: twelve triples, each with an amount of its own",
+         S(0x6A, *[b for k in range(1, 13) for b in (k, 3)]), S(0x62, 1), samples(0x0FFF, 0, 0x0FFF), S(0x61, *[b for k in range(1, 13) for b in (k, 0, k % 4)]), S(0x60, 0)),
+    case("namedTwice", "61H (E1): a number twice is 13, whatever the amounts, the numbers and their places, and nothing changes",
+         COUNTED, S(0x61, 1, 0, 1, 1, 0, 1), S(0x61, 1, 0, 0, 1, 0, 0), S(0x61, 1, 0, 2, 1, 0, 2), S(0x61, 1, 0, 1, 1, 0, 9), S(0x61, 1, 0, 9, 1, 0, 9),
+         S(0x61, 0, 0, 0, 0, 0, 0), S(0x61, 17, 0, 0, 17, 0, 0), S(0x61, 1, 0, 1, 2, 0, 1, 1, 0, 1), S(0x61, 2, 0, 1, 1, 0, 1, 1, 0, 1),
+         S(0x61, 1, 0, 1, 1, 0, 1, 2, 0, 1), S(0x61, *[b for k in (3, 1, 2, 1, 4) for b in (k, 0, 0)]), S(0x61, *[1, 0, 0] * 3), S(0x61, *[1, 0, 0] * 12),
+         S(0x61, 17, 0, 0, 1, 0, 1, 17, 0, 0), S(0x61, *[b for k in range(1, 12) for b in (k, 0, 0)], 1, 0, 0),
+         S(0x61, 1, 0, 0, *[b for k in range(2, 12) for b in (k, 0, 0)], 11, 0, 0),
+         S(0x61, *[b for k in (1, 2, 3, 4, 5, 6, 7, 8, 5, 10, 11, 12) for b in (k, 0, 0)]), S(0x60, 1, 2, 16)),
+    case("namedOnce", "61H (E1): numbers that differ, whatever their amounts: 11 or accepted; 60H, 6AH and 23H may repeat",
+         COUNTED, S(0x61, 17, 0, 0, 1, 0, 1), S(0x61, 0, 0, 0, 1, 0, 1), S(0x61, 0x81, 0, 0, 1, 0, 1), S(0x61, 0xF1, 0, 0, 1, 0, 1), S(0x61, 0, 0, 0, 17, 0, 0),
+         S(0x61, 17, 0, 0, 18, 0, 0), S(0x61, 1, 0, 2, 2, 0, 1, 16, 0, 1), S(0x60, 1, 2, 16), S(0x61, 2, 0, 1, 1, 0, 1), S(0x60, 1, 1), S(0x6A, 1, 3, 1, 3),
+         S(0x23, 1, 0x81, 0x01), S(0x33, 1)),
+    case("twiceEndsPermission", "13 (E1) ends the permission, as 11 does; to FE it is answered from the own address",
+         S(0xE4), S(0x61, 1, 0, 0, 1, 0, 0), S(0xE0, 0x32, 7), S(0xE4), S(0x61, 1, 0, 0, 1, 0, 0, a=0xFE), S(0xE0, 0x32, 7), S(0xF0)),
     case("deductLengths", "61H: no data, 2, 4 and 39 bytes: 8",
          COUNTED, S(0x61), S(0x61, 1, 0), S(0x61, 1, 0, 1, 1), S(0x61, *[1, 0, 0] * 13), S(0x61, *[17, 9, 9] * 13), S(0x60, 1)),
     case("deductNumbers", "61H: 0 and 17: 11; of a single byte only 00 clears",
@@ -577,7 +593,7 @@ REGISTERS = [
          S(0x6A, 1, 3, 2, 3, 16, 3), S(0x62, 1), samples(0x8003, 0), R(6, 100, 1), R(6, 100, 0x0100), R(6, 101, 0), S(0x60, 1, 2, 16), W(114, 0, 0), S(0x60, 1, 16),
          samples(0x8003), W(100, 0, 1), W(100, 1, 0), S(0x60, 1, 2, 16), W(100, *[0] * 16), S(0x60, 0), W(100, *[0] * 17), W(101, *[0] * 16), W(99, 0, 0), R(6, 99, 0),
          R(6, 116, 0), W(115, 0, 0)),
-    case("deductionsWritten", "200 to 215: up to the counter, at most 12, left to right and all or nothing; 9 on both sides",
+    case("deductionsWritten", "200 to 215: up to the counter, at most 12, all or nothing; 9 on both sides",
          S(0x6A, 1, 3, 2, 3, 16, 3), S(0x62, 1), samples(0x8003, 0, 0x8003), R(6, 200, 4), R(6, 200, 1), R(6, 215, 3), R(6, 215, 1), W(200, 1, 4), W(200, 1, 2),
          S(0x60, 1, 2, 16), W(200, *[0] * 12), W(200, *[0] * 13), W(204, *[0] * 12), W(205, *[0] * 12), R(6, 199, 0), R(6, 216, 0), W(199, 0, 0), W(215, 0, 0),
          R(3, 200, 1), S(0x60, 1, 2, 16)),
@@ -721,8 +737,8 @@ TALLIES = [
             COUNT3 + [S(0x60, 0), S(0x60, 1, 0x41), S(0x60, 2, 0xC2, 0x82, 1)], [(1, 3, 0), (2, 3, 3)]),
     tallied("readRefused", "a refused 60H and one to all collect nothing", COUNT3 + [S(0x60, 0x81, 0), S(0x60, 0x81, 17), S(0x60, 0x80, a=0xFF)], [(1, 3, 0), (2, 3, 0)]),
     tallied("readHigh", "300 edges read and zeroed: both bytes of the value count", [S(0x6A, 1, 3), S(0x62, 1), doors(150, 1, 0), S(0x60, 0x81)], [(1, 300, 300)]),
-    tallied("deducted", "three edges of each; 1, then 2 and 1 again deducted; a refused list collects nothing",
-            COUNT3 + [S(0x61, 1, 0, 1, 2, 0, 2, 1, 0, 1), S(0x61, 1, 0, 1, 1, 0, 1)], [(1, 3, 2), (2, 3, 2)]),
+    tallied("deducted", "three edges of each; 1 and 2, then 1 again deducted; a list refused by 13 or 11 collects nothing",
+            COUNT3 + [S(0x61, 1, 0, 1, 2, 0, 2), S(0x61, 1, 0, 1), S(0x61, 2, 0, 0, 2, 0, 1), S(0x61, 2, 0, 1, 1, 0, 2)], [(1, 3, 2), (2, 3, 2)]),
     tallied("deductedHigh", "300 edges, 257 deducted by 61H and 40 by register", [S(0x6A, 1, 3), S(0x62, 1), doors(150, 1, 0), S(0x61, 1, 1, 1), R(6, 200, 40)], [(1, 300, 297)]),
     tallied("deductedByRegisters", "registers 200 and 201, then 201 alone; 215 is input 16",
             [S(0x6A, 16, 3)] + COUNT3 + samples(0x8000) + [W(200, 1, 2), R(6, 201, 1), R(6, 215, 1)], [(1, 4, 1), (2, 4, 3), (16, 1, 1)]),

@@ -20,7 +20,7 @@ PROOFS = os.path.join(ROOT, "crates/model/proofs/")
 SPECS = """State Times Samples Frames Refusals Wire Counters Temperature Outputs Notice Registers Spinel Modbus Call Calls Demand1 Tally Cycles
 Parts""".split()
 LISTS = "Tests Mapi Walk Numbers Chunks Entries".split()
-SHUT = {"done", "walk", "someBelow", "entriesOf", "entryAdded"}
+SHUT = {"done", "walk", "allPass", "someBelow", "entriesOf", "entryAdded"}
 WIDTH = 150
 
 

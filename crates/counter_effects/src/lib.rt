@@ -4,7 +4,6 @@ ghost use mathlib.Core.Bool.{cond, not};
 ghost use mathlib.Core.List.{List, foldl};
 ghost use Prim.Native.Nat.{ℕ};
 ghost use Rattle.lists.specs.Tests.{all};
-ghost use Rattle.lists.specs.Walk.{allPass};
 ghost use Rattle.lists.specs.Entries.{entriesIn};
 ghost use Rattle.model.specs.Refusals.{refusalOf};
 ghost use Rattle.model.specs.Counters.{deductible, deductOne, deduct};
@@ -34,20 +33,16 @@ fn deduct_one(cs: [u16; 16], e: Entry) -> [u16; 16]
     encoding::with_word(cs, k, encoding::less(have, e.value))
 }
 
-// Whether every deduction is covered, each by what those before it left.
+// Whether every deduction is covered.
 fn covers(cs: [u16; 16], es: Entries) -> bool
-    ensures { λ r. ⌜ r ≡ allPass deductible deductOne cs (entriesIn es) ⌝ }
+    ensures { λ r. ⌜ r ≡ all (deductible cs) (entriesIn es) ⌝ }
 {
     let n = entries::count(es);
-    let mut copy = cs;
     let mut i = 0;
     while i < n {
-        let e = entries::entry_at(es, i);
-        if !is_covered(copy, e) {
+        if !is_covered(cs, entries::entry_at(es, i)) {
             return false;
         }
-        let next = deduct_one(copy, e);
-        copy = next;
         i += 1;
     }
     true

@@ -6,7 +6,7 @@ use borrow.Author.Tests.{eqb-true, leb-true, leb-false, le-leb, le-ltb, lt-ltb, 
 use mathlib.Core.Path.{_≡_, refl, sym, _∙_, ap}
 use mathlib.Core.Bool.{Bool, true, false, cond, not, _&&_, _||_, and-true}
 use mathlib.Core.List.{List, [], _∷_}
-use Rattle.lists.specs.Tests.{within, all}
+use Rattle.lists.specs.Tests.{within, all, any}
 
 -- by the test's two results
 pub cond-case : {A : Type 0} (P : A → Type 0) (t : Bool) (a b : A) → (t ≡ true → P a) → (t ≡ false → P b) → P (cond t a b)
@@ -136,6 +136,20 @@ module _ {A : Type 0} (f : A → Bool) (x : A) (xs : List A) (h : all f (x ∷ x
   pub all-rest : all f xs ≡ true
   unfolding all
   all-rest = by-first (f x) refl h .1
+
+-- of a list of which none passes, its first and its rest
+module _ {A : Type 0} (f : A → Bool) (x : A) (xs : List A) (h : any f (x ∷ xs) ≡ false) where
+  by-none : (b : Bool) → f x ≡ b → cond b true (any f xs) ≡ false → (f x ≡ false) × (any f xs ≡ false)
+  by-none true e k = (cc, cc)
+  by-none false e k = (e, k)
+
+  pub any-first : f x ≡ false
+  unfolding any
+  any-first = by-none (f x) refl h .0
+
+  pub any-rest : any f xs ≡ false
+  unfolding any
+  any-rest = by-none (f x) refl h .1
 
 -- one turn of a loop that tests each element, from how the list's first is taken
 module _ {A : Type 0} (f : A → Bool) where

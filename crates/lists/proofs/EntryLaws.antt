@@ -4,11 +4,14 @@ use native.Mathlib.Omega.{arith}
 use native.Mathlib.Nat.{le-of-suc-le-suc, not-suc-le-zero}
 use native.Mathlib.Decide.{ℕ-discrete}
 use mathlib.Core.Path.{_≡_, refl, ap, _∙_}
+use mathlib.Core.Bool.{false}
 use mathlib.Core.List.{List, [], _∷_, _++_, append-assoc, append-nil, map, foldl}
+use lib.Dec.{eqb}
 use lib.ListN.{length, getD, take, drop, length-append, length-map}
 use lib.Seq.{take-all, take-at, take-append-seam, drop-drop}
-use borrow.Author.Tests.{lt-ltb, le-ltb}
+use borrow.Author.Tests.{lt-ltb, le-ltb, ne-eqb}
 use Rattle.lists.specs.declared.Entry.{Entry}
+use Rattle.lists.specs.Tests.{any, twice}
 use Rattle.lists.specs.Chunks.{chunks, chunksOf}
 use Rattle.lists.specs.Entries.{entry, entryOf, entries, numbered, entriesOf, entriesIn, entryAdded}
 use Rattle.lists.proofs.DataLaws.{filled-push}
@@ -78,3 +81,14 @@ numbered-at n (v ∷ vs) zero e h =
 numbered-at n (v ∷ vs) (suc j) e h =
     let same : n + suc j ≡ suc n + j = omega arith in
     rw same (numbered-at (suc n) vs j e (le-of-suc-le-suc h))
+
+-- no number stands twice among numbers one after another
+none-below : (k n : ℕ) (vs : List ℕ) → k < n → any (λ (e : Entry). eqb k (e .number)) (numbered n vs) ≡ false
+unfolding numbered any
+none-below k n [] h = refl
+none-below k n (v ∷ vs) h = rw (ne-eqb k n (λ e. omega (arith, e))) (none-below k (suc n) vs (omega arith))
+
+pub numbered-once : (n : ℕ) (vs : List ℕ) → twice (λ (e : Entry). e .number) (numbered n vs) ≡ false
+unfolding numbered twice
+numbered-once n [] = refl
+numbered-once n (v ∷ vs) = rw (none-below n (suc n) vs (omega arith)) (numbered-once (suc n) vs)

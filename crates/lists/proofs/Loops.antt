@@ -4,10 +4,10 @@ use native.Mathlib.Numerals.{add-one}
 use mathlib.Core.Path.{_≡_, refl}
 use mathlib.Core.Bool.{Bool, true, false}
 use mathlib.Core.List.{List, [], _∷_, foldl}
+use lib.Dec.{eqb}
 use lib.ListN.{length, getD, drop, drop-of-length-le}
 use lib.Seq.{drop-cons}
-use Rattle.lists.specs.Tests.{all}
-use Rattle.lists.specs.Walk.{allPass}
+use Rattle.lists.specs.Tests.{all, any, twice}
 use Rattle.lists.proofs.Choices.{all-first, all-rest}
 
 -- what is left from place i on, by its first
@@ -40,19 +40,33 @@ module _ {E : Type 0} (ok : E → Bool) (l : List E) {n : ℕ} (size : n ≡ len
   unfolding all
   test-ends h = rw (left-none l size i h)
 
--- each tested on what those before it made of the copy
-module _ {E S : Type 0} (ok : S → E → Bool) (step : S → E → S) (s : S) (l : List E) {n : ℕ} (size : n ≡ length l) (i : ℕ) where
-  pub pass-goes : (d : E) → i < n → ok s (getD l i d) ≡ true → allPass ok step (step s (getD l i d)) (drop (i + 1) l) ≡ allPass ok step s (drop i l)
-  unfolding allPass
-  pass-goes d h e = rw (left-some l size i d h, e)
+-- one looked for
+module _ {E : Type 0} (ok : E → Bool) (l : List E) {n : ℕ} (size : n ≡ length l) (i : ℕ) where
+  pub find-goes : (d : E) → i < n → ok (getD l i d) ≡ false → any ok (drop (i + 1) l) ≡ any ok (drop i l)
+  unfolding any
+  find-goes d h e = rw (left-some l size i d h, e)
 
-  pub pass-stops : (d : E) → i < n → ok s (getD l i d) ≡ false → false ≡ allPass ok step s (drop i l)
-  unfolding allPass
-  pass-stops d h e = rw (left-some l size i d h, e)
+  pub find-stops : (d : E) → i < n → ok (getD l i d) ≡ true → true ≡ any ok (drop i l)
+  unfolding any
+  find-stops d h e = rw (left-some l size i d h, e)
 
-  pub pass-ends : n ≤ i → true ≡ allPass ok step s (drop i l)
-  unfolding allPass
-  pass-ends h = rw (left-none l size i h)
+  pub find-ends : n ≤ i → false ≡ any ok (drop i l)
+  unfolding any
+  find-ends h = rw (left-none l size i h)
+
+-- two with the same number looked for
+module _ {E : Type 0} (f : E → ℕ) (l : List E) {n : ℕ} (size : n ≡ length l) (i : ℕ) where
+  pub twice-goes : (d : E) → i < n → any (λ y. eqb (f (getD l i d)) (f y)) (drop (i + 1) l) ≡ false → twice f (drop (i + 1) l) ≡ twice f (drop i l)
+  unfolding twice
+  twice-goes d h e = rw (left-some l size i d h, e)
+
+  pub twice-stops : (d : E) → i < n → any (λ y. eqb (f (getD l i d)) (f y)) (drop (i + 1) l) ≡ true → true ≡ twice f (drop i l)
+  unfolding twice
+  twice-stops d h e = rw (left-some l size i d h, e)
+
+  pub twice-ends : n ≤ i → false ≡ twice f (drop i l)
+  unfolding twice
+  twice-ends h = rw (left-none l size i h)
 
 -- two steps that agree on what passes a test come to the same on a list that does
 pub same-steps : {E S : Type 0} (ok : E → Bool) (step step′ : S → E → S) → ((s : S) (e : E) → ok e ≡ true → step s e ≡ step′ s e)

@@ -2,7 +2,7 @@
 use Prim.Native.Nat.{ℕ, zero, suc}
 use mathlib.Core.Bool.{Bool, true, false, cond, _&&_, _||_}
 use mathlib.Core.List.{List, [], _∷_}
-use lib.Dec.{leb}
+use lib.Dec.{leb, eqb}
 
 -- from low to high, ends included
 unfoldable pub within : ℕ → ℕ → ℕ → Bool
@@ -17,6 +17,11 @@ all f (x ∷ xs) = cond (f x) (all f xs) false
 unfoldable pub any : {A : Type 0} → (A → Bool) → List A → Bool
 any f [] = false
 any f (x ∷ xs) = cond (f x) true (any f xs)
+
+-- two elements have the same number: one, and another behind it
+unfoldable pub twice : {A : Type 0} → (A → ℕ) → List A → Bool
+twice f [] = false
+twice f (x ∷ xs) = any (λ y. eqb (f x) (f y)) xs || twice f xs
 
 -- some number below n passes: what a loop that looks at each has found after n turns
 unfoldable pub someBelow : (ℕ → Bool) → ℕ → Bool

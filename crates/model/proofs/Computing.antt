@@ -1,9 +1,8 @@
 -- The definitions opened for computing on closed calls. Written by reference/tables.py. Assumes nothing.
 use mathlib.Core.List.{flatMap}
 use lib.Ieee.{div, ofInt, ofBits, toBits, isNan}
-use Rattle.lists.specs.Tests.{within, all, any}
+use Rattle.lists.specs.Tests.{within, all, any, twice}
 use Rattle.lists.specs.Mapi.{mapi}
-use Rattle.lists.specs.Walk.{allPass}
 use Rattle.lists.specs.Numbers.{bytes, bitsNumber}
 use Rattle.lists.specs.Chunks.{chunksOf, chunks}
 use Rattle.lists.specs.Entries.{entryOf, entries, numbered}
@@ -14,8 +13,8 @@ use Rattle.model.specs.Refusals.{shapeWrong, sumWrong, crcWrong, spinelA
 use Rattle.model.specs.Refusals.{modbusBroadcastWrong, checkingOrder, firstHolding, refusalOf, judged, ackOf, exceptionOf}
 use Rattle.model.specs.Wire.{frameRefusal, frameAnswered, frameActed, frameHandled, frameCall}
 use Rattle.model.specs.Counters.{itemsOf, listed, listRead, parameters, readOne, valuesRead, readCounters, deductible, deductOne, deduct}
-use Rattle.model.specs.Counters.{clearAll, deductCounters, modeSettable, setMode, setModes, setModesList, modeShown, setSampling, readSampling}
-use Rattle.model.specs.Counters.{runsEnded, reset, givePermission, setPort, readPort, resetModule}
+use Rattle.model.specs.Counters.{namedTwice, clearAll, deductCounters, modeSettable, setMode, setModes, setModesList, modeShown, setSampling}
+use Rattle.model.specs.Counters.{readSampling, runsEnded, reset, givePermission, setPort, readPort, resetModule}
 use Rattle.model.specs.Temperature.{signedOf, patternOf, degrees, readingOf, readingShown, readTemperature, floatBits, readingWords}
 use Rattle.model.specs.Temperature.{thermostatFits, groupThermostat, groupFits, setGroup, setThermostats, groupShown, readThermostats, free}
 use Rattle.model.specs.Temperature.{freeAt, levelled, crossed, crossing, heated, failed, taken}
@@ -41,19 +40,19 @@ use Rattle.model.proofs.Checksums.{uncheckedStep, uncheckedReplies}
 
 -- naming this on an `unfolding` line opens all that its own line names: every definition but the CRC, for rows that go by `passed`
 unfoldable pub unchecked : Unit {0}
-unfolding within all any mapi allPass bytes bitsNumber chunksOf chunks entryOf entries numbered freshModule lineSampled linesSampled selects
+unfolding within all any twice mapi bytes bitsNumber chunksOf chunks entryOf entries numbered freshModule lineSampled linesSampled selects
     selectedEdge edges counted countersSampled inputsSampled total spinelReply withCrc shapeWrong sumWrong crcWrong spinelAddressWrong
     modbusAddressWrong spinelBroadcastWrong modbusBroadcastWrong checkingOrder firstHolding refusalOf judged ackOf exceptionOf frameRefusal
     frameAnswered frameActed frameHandled frameCall itemsOf listed listRead parameters readOne valuesRead readCounters deductible deductOne
-    deduct clearAll deductCounters modeSettable setMode setModes setModesList modeShown setSampling readSampling runsEnded reset givePermission
-    setPort readPort resetModule signedOf patternOf degrees readingOf readingShown readTemperature floatBits readingWords thermostatFits
-    groupThermostat groupFits setGroup setThermostats groupShown readThermostats free freeAt levelled crossed crossing heated failed taken
-    pulsed remaining setByte setOutput startPulse actOn setOutputs pulseOutputs setPulses presetSettable setPreset setPresets startPreset
-    presetReady startPresets pulseShown presetShown modeByte readStates setNotice readNotice noticed noticeFrame noticeWritten readWords packed
-    readBits outputWord thermostatWords readThermostat writePermission portSettable setPortField writePort isZero clearOne writeCounters
-    writeDeductions writeModes writePulse wordsThermostat writeThermostat writeCoils spinelAsked spinelRequest quantityWrong countWrong words
-    bitsFrom registersRead registersWritten coilWritten registerWritten coilsWritten severalWritten modbusAsked sampled sampleCall
-    temperatureCall step run requestChecks frameChecks checks permissionEnded isBroadcast refusalReply givesPermission resetsModule
+    deduct namedTwice clearAll deductCounters modeSettable setMode setModes setModesList modeShown setSampling readSampling runsEnded reset
+    givePermission setPort readPort resetModule signedOf patternOf degrees readingOf readingShown readTemperature floatBits readingWords
+    thermostatFits groupThermostat groupFits setGroup setThermostats groupShown readThermostats free freeAt levelled crossed crossing heated
+    failed taken pulsed remaining setByte setOutput startPulse actOn setOutputs pulseOutputs setPulses presetSettable setPreset setPresets
+    startPreset presetReady startPresets pulseShown presetShown modeByte readStates setNotice readNotice noticed noticeFrame noticeWritten
+    readWords packed readBits outputWord thermostatWords readThermostat writePermission portSettable setPortField writePort isZero clearOne
+    writeCounters writeDeductions writeModes writePulse wordsThermostat writeThermostat writeCoils spinelAsked spinelRequest quantityWrong
+    countWrong words bitsFrom registersRead registersWritten coilWritten registerWritten coilsWritten severalWritten modbusAsked sampled
+    sampleCall temperatureCall step run requestChecks frameChecks checks permissionEnded isBroadcast refusalReply givesPermission resetsModule
     portPermitted selectedBy sampledAccount amounts modeGiven takenBy takenFrom spinelCollects spinelClears spinelResets spinelMode
     spinelSampling writes written modbusCollects modbusClears modbusResets modbusMode changed tallied feed tally clears stayed events
     spinelLeaves registersLeave modbusLeaves leaves flatMap div ofInt ofBits toBits isNan samplesInTurn uncheckedStep uncheckedReplies

@@ -16,11 +16,12 @@ use Rattle.lists.specs.declared.Entry.{Entry}
 use Rattle.lists.proofs.Choices.{and-left, and-right, within-low, all-first, all-rest, either}
 use Rattle.model.specs.declared.Line.{Line}
 use Rattle.model.specs.State.{line, freshLine}
-use Rattle.model.specs.Counters.{isNumber, zeroes, numberIn, readOne, valuesRead, deductible, deductOne, clearedCounters, modeSettable, setMode, runsEnded}
+use Rattle.model.specs.Counters.{isNumber, zeroes, numberIn, readOne, valuesRead, deductible, deductOne, namedTwice, clearedCounters, modeSettable, setMode, runsEnded}
 use Rattle.model.specs.Registers.{clearOne}
 use Rattle.model.specs.Tally.{Account, withRun, withMode, collect, clear, twoAt, valueAt, takenBy, takenFrom}
 use Rattle.model.proofs.OneInput.{collectedBy, modeAfter, named}
 use Rattle.model.proofs.Invariant.{Counting, At}
+use Rattle.model.proofs.Deductions.{judged-alike}
 
 -- a number of an input is at least 1
 positive : (n : ℕ) → isNumber n ≡ true → 1 ≤ n
@@ -219,11 +220,11 @@ module _ (i : ℕ) (small : i < 16) (x : Counting) (n : ℕ) (u : Account) (v : 
       let s = read-splits i ps (x .counters) r tail 0 below ok e in
       counts _ _ _ (v .times + s .times) (length-fold readOne length-readOne ps (x .counters)) (omega (arith, v .sum, s .sum))
 
-  pub deducts : (es : List Entry) → allPass deductible deductOne (x .counters) es ≡ true
+  pub deducts : (es : List Entry) → namedTwice es ≡ false → all (deductible (x .counters)) es ≡ true
       → At i (counted x (foldl deductOne (x .counters) es)) n (collect (collectedBy i es) u)
-  deducts es ok =
+  deducts es once ok =
       counts _ _ _ (v .times) (length-fold deductOne length-deductOne es (x .counters))
-      (omega (arith, v .sum, deduct-splits i es (x .counters) below ok))
+      (omega (arith, v .sum, deduct-splits i es (x .counters) below (judged-alike es (x .counters) once ∙ ok)))
 
   pub clears-all : At i (counted x clearedCounters) n (clear u)
   clears-all = counts clearedCounters 0 0 0 (sym (v .counters)) (omega (arith, zeros i small))

@@ -82,7 +82,7 @@ pub passes-either : (R : Out → Type 0) (n : ℕ) (m : Module) (o : Out) → ((
 passes-either R zero m o denied acted = acted refl
 passes-either R (suc k) m o denied acted = denied k
 
--- a call with a frame on either wire: refused without a reply, refused by 7 to 12, or accepted
+-- a call with a frame on either wire: refused without a reply, refused by 7 to 13, or accepted
 pub frame-either : (R : Out → Type 0) (w : Wire) (f : List ℕ) (m : Module) → ((n : ℕ) → R (silent (suc n) m))
     → ((n : ℕ) → 7 ≤ n → R (frameAnswered w (w .port m .address) f (refused n (usedUp w m))))
     → (frameRefusal w (w .port m .address) f ≡ 0 → Passes (requestOf w f m) → R (frameAnswered w (w .port m .address) f (granted (requestOf w f m))))

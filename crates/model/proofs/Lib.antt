@@ -25,6 +25,7 @@ pub mod Refused
 pub mod OneInput
 pub mod Bridge
 pub mod Invariant
+pub mod Deductions
 pub mod Effects
 pub mod Accepted
 pub mod SpinelKeeps

@@ -25,6 +25,7 @@ use Rattle.model.proofs.Bridge.{Values, single, several, isWrite, write
 use Rattle.model.proofs.Invariant.{Counting, countingOf, Inv}
 use Rattle.model.proofs.Judged.{order, passes-without}
 use Rattle.model.proofs.Accepted.{Good}
+use Rattle.model.proofs.Deductions.{registers-once}
 use Rattle.model.proofs.Effects as effects
 
 -- a register's number, as the difference from the register before its group
@@ -73,7 +74,7 @@ module _ (i : ℕ) (small : i < 16) (m : Module) (t : Tally) (v : Inv i (countin
     unfolding order writeDeductions deduct
     deductions-good l = record {
       keeps = λ p. rw (at-deduction i f u small l (ends deductionGroup f vs o (or-left _ _ (p .at 9 refl))), ← lookup-collect u (lookup i 199 f vs w o l), ← number-at 199 (twoAt f 2))
-          (effects.deducts i small x (t .sampling) u v _ (not-false _ (p .at 11 refl)));
+          (effects.deducts i small x (t .sampling) u v _ (registers-once _ vs) (not-false _ (p .at 11 refl)));
     }
 
     modes-good : 300 ≤ twoAt f 2 → Good i on (onPart (withModes m) (writeModes (twoAt f 2) vs (m .settings .modes)))

@@ -7,10 +7,10 @@ use mathlib.Core.List.{List, [], _∷_, map}
 use lib.IntN.{pos}
 use Rattle.model.specs.State.{freshModule}
 use Rattle.model.specs.Call.{Call}
-use Rattle.model.specs.Refusals.{telling, refuse}
+use Rattle.model.specs.Refusals.{telling, refuse, refusalOf, ackOf, exceptionOf}
 use Rattle.model.specs.Spinel.{spinelWire}
-use Rattle.model.specs.Demand1.{Check, greatest, frameChecks, isBroadcast}
-use Rattle.model.specs.Tally.{Tally, Event, freshTally, uncollected, clears, stayed}
+use Rattle.model.specs.Demand1.{Check, greatest, requestChecks, frameChecks, isBroadcast}
+use Rattle.model.specs.Tally.{Tally, Event, freshTally, amounts, uncollected, clears, stayed}
 use Rattle.model.specs.Cycles.{events, finalTally, counterNow, CyclesConserved}
 use Rattle.model.proofs.Computing.{computing}
 use Rattle.model.proofs.Exchanges.{sampleOf, temperatureOf, asked, askedAt, sentTo, requested, written}
@@ -73,15 +73,22 @@ abbrev none : Event
 none = accepted (sampleOf 0)
 
 pub record Rows : Type 0 where
-  -- what goes to all modules, and the greatest number
+  -- what goes to all modules, the greatest number, and what tells it
   pub toAllSpinel : isBroadcast (askedAt 0xFF 0x20 (0x81 ∷ []) .act) ≡ true
   pub toUniversal : isBroadcast (askedAt 0xFE 0x20 (0x81 ∷ []) .act) ≡ false
   pub toAllModbus : isBroadcast (sentTo 0x00 0x05 (0x00 ∷ 0x00 ∷ 0xFF ∷ 0x00 ∷ []) .act) ≡ true
   pub notToFF : isBroadcast (sentTo 0xFF 0x05 (0x00 ∷ 0x00 ∷ 0xFF ∷ 0x00 ∷ []) .act) ≡ false
-  pub twelve : greatest ≡ 12
+  pub thirteen : greatest ≡ 13
+  pub ack13 : ackOf 13 ≡ 0x03
+  pub exception13 : exceptionOf 13 ≡ 0x03
   -- a refusal is added under its own number alone, and checks stand in their order
   pub refusesOne : map (refuse 9 true (telling []) .holds) (8 ∷ 9 ∷ 10 ∷ []) ≡ (false ∷ true ∷ false ∷ [])
+  pub tenFirst : refusalOf (refuse 13 true (refuse 10 true (telling []))) ≡ 10
+  pub thenThirteen : refusalOf (refuse 11 true (refuse 13 true (telling []))) ≡ 13
+  pub requestOrder : map (λ (c : Check). c .number) (requestChecks (telling [])) ≡ (7 ∷ 8 ∷ 9 ∷ 10 ∷ 13 ∷ 11 ∷ 12 ∷ [])
   pub frameOrder : map (λ (c : Check). c .number) (frameChecks spinelWire 0x31 []) ≡ (2 ∷ 3 ∷ 4 ∷ 5 ∷ 6 ∷ [])
+  -- the tally adds what all triples of an input name, and does not rest on 13
+  pub amountsAdd : amounts 1 (1 ∷ 0 ∷ 2 ∷ 2 ∷ 0 ∷ 9 ∷ 1 ∷ 1 ∷ 3 ∷ []) ≡ 261
   -- uncollected is edges less collected
   pub uncollected5 : uncollected (holding 8 3) 1 ≡ 5
   -- what clears input 1, and what does not
@@ -126,9 +133,15 @@ rows = record {
   toUniversal = refl;
   toAllModbus = refl;
   notToFF = refl;
-  twelve = refl;
+  thirteen = refl;
+  ack13 = refl;
+  exception13 = refl;
   refusesOne = refl;
+  tenFirst = refl;
+  thenThirteen = refl;
+  requestOrder = refl;
   frameOrder = refl;
+  amountsAdd = refl;
   uncollected5 = refl;
   by61 = refl;
   notBy61Byte = refl;

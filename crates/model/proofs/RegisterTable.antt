@@ -185,7 +185,7 @@ pub record RegisterTable : Type 0 where
       (requested 0x06 116 0 ⇒ excepts 9 0x86 0x02) ∷
       (written 115 (0 ∷ 0 ∷ []) ⇒ excepts 9 0x90 0x02) ∷
       [])
-  -- 200 to 215: up to the counter, at most 12, left to right and all or nothing; 9 on both sides
+  -- 200 to 215: up to the counter, at most 12, all or nothing; 9 on both sides
   pub deductionsWritten : Plays freshModule (
       (asked 0x6A (0x01 ∷ 0x03 ∷ 0x02 ∷ 0x03 ∷ 0x10 ∷ 0x03 ∷ []) ⇒ answers []) ∷
       (asked 0x62 (0x01 ∷ []) ⇒ answers []) ∷

@@ -59,7 +59,7 @@ module _ (i : ℕ) (small : i < 16) (m : Module) (t : Tally) (v : Inv i (countin
   deduct-good =
       cond-case (λ q. Good i (by 0x61) (onPart (withCounters m) q)) (eqb (length d) 1) _ _
       (λ e. record { keeps = λ p. rw (e, not-false (eqb (getD d 0 0) 0) (p .at 11 refl)) (effects.clears-all i small x (t .sampling) u v) })
-      (λ e. record { keeps = λ p. rw (e, amounts-agree i d) (effects.deducts i small x (t .sampling) u v (entries 3 d) (not-false _ (p .at 11 refl))) })
+      (λ e. record { keeps = λ p. rw (e, amounts-agree i d) (effects.deducts i small x (t .sampling) u v (entries 3 d) (p .at 13 refl) (not-false _ (p .at 11 refl))) })
 
   modes-good : Good i (by 0x6A) (onPart (withModes m) (setModesList d (m .settings .modes)))
   unfolding order setModesList setModes spinelSampling spinelResets spinelClears spinelMode spinelCollects changed

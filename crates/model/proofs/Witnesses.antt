@@ -9,14 +9,14 @@ use Rattle.model.proofs.Exchanges.{Plays, _⇒_, sampleOf, temperatureO
 use Rattle.model.proofs.Exchanges.{answers, answersFrom, refuses, gives, givesFrom, echoes}
 
 pub record Witnesses : Type 0 where
-  -- slip: deducting while still judging. Counters 3, 3; 2 and 1, then 2 again from the first: 11, still 3, 3
+  -- slip: deducting while still judging. Counters 3, 3, 0; 2, 1 and 1 from them: 11, still 3, 3
   pub deductsAfterJudging : Plays freshModule (
       (asked 0x6A (0x01 ∷ 0x03 ∷ 0x02 ∷ 0x03 ∷ []) ⇒ answers []) ∷
       (asked 0x62 (0x01 ∷ []) ⇒ answers []) ∷
       (sampleOf 3 ⇒ silently 0) ∷
       (sampleOf 0 ⇒ silently 0) ∷
       (sampleOf 3 ⇒ silently 0) ∷
-      (asked 0x61 (0x01 ∷ 0x00 ∷ 0x02 ∷ 0x02 ∷ 0x00 ∷ 0x01 ∷ 0x01 ∷ 0x00 ∷ 0x02 ∷ []) ⇒ refuses 11 0x03) ∷
+      (asked 0x61 (0x01 ∷ 0x00 ∷ 0x02 ∷ 0x02 ∷ 0x00 ∷ 0x01 ∷ 0x03 ∷ 0x00 ∷ 0x01 ∷ []) ⇒ refuses 11 0x03) ∷
       (asked 0x60 (0x01 ∷ 0x02 ∷ []) ⇒ answers (0x10 ∷ 0x00 ∷ 0x03 ∷ 0x00 ∷ 0x03 ∷ [])) ∷
       [])
   -- slip: counting every change of a sample. Six changes, none of them 20 samples long: no edge

@@ -4,8 +4,7 @@ use mathlib.Core.Bool.{Bool, true, false, cond, not, _&&_, _||_}
 use mathlib.Core.List.{List, [], _∷_, _++_, map, foldl, flatMap}
 use lib.ListN.{length, getD, set, replicate}
 use lib.Dec.{leb, eqb}
-use Rattle.lists.specs.Tests.{within, all}
-use Rattle.lists.specs.Walk.{allPass}
+use Rattle.lists.specs.Tests.{within, all, twice}
 use Rattle.lists.specs.Numbers.{bytes}
 use Rattle.lists.specs.declared.Entry.{Entry}
 use Rattle.lists.specs.Entries.{entries}
@@ -16,7 +15,7 @@ use Rattle.model.specs.State.{line, freshOutput, permit, port, withSpine
 use Rattle.model.specs.Samples.{places, counterBits, counterBytes}
 use Rattle.model.specs.Refusals.{Request, accepting, telling, refuse}
 
--- an input or output that there is; any other number is refused 11
+-- an input or output that there is; else 11
 abbrev pub isNumber : ℕ → Bool
 isNumber n = within 1 places n
 
@@ -76,16 +75,21 @@ readCounters d cs =
 
 -- 61H: deduct, or clear all ------------------------------------------------------------
 
--- the input exists, and its counter, as the deductions before this one left it, covers the amount
+-- the input exists, and its counter covers the amount
 unfoldable pub deductible : List ℕ → Entry → Bool
 deductible cs e = isNumber (e .number) && leb (e .value) (getD cs (e .number - 1) 0)
 
 unfoldable pub deductOne : List ℕ → Entry → List ℕ
 deductOne cs e = set cs (e .number - 1) (getD cs (e .number - 1) 0 - e .value)
 
--- all or none: the counters change only where every amount was covered in its turn
+-- all or none: the counters change only where each covers its amount. Who asks sees to it that no input stands twice (61H by 13, registers by
+-- their places): then no amount is judged by a counter that another deduction of the list moves
 unfoldable pub deduct : List Entry → List ℕ → Request (List ℕ)
-deduct es cs = refuse 11 (not (allPass deductible deductOne cs es)) (accepting (foldl deductOne cs es) [])
+deduct es cs = refuse 11 (not (all (deductible cs) es)) (accepting (foldl deductOne cs es) [])
+
+-- 13 (E1): some number stands twice
+unfoldable pub namedTwice : List Entry → Bool
+namedTwice es = twice (λ (e : Entry). e .number) es
 
 -- cleared (01): the counters zeroed, nothing collected
 abbrev pub clearedCounters : List ℕ
@@ -94,11 +98,13 @@ clearedCounters = replicate places 0
 unfoldable pub clearAll : ℕ → Request (List ℕ)
 clearAll b = refuse 11 (not (eqb b 0)) (accepting clearedCounters [])
 
--- one byte clears, and must be 00; else three bytes for each deduction, the input and the amount
+-- one byte clears, and must be 00; else three bytes for each deduction, the input and the amount, no number twice
 unfoldable pub deductCounters : List ℕ → List ℕ → Request (List ℕ)
 deductCounters d cs =
     cond (eqb (length d) 1) (clearAll (getD d 0 0))
-    (refuse 8 (not (itemsOf (1 + counterBytes) d)) (deduct (entries (1 + counterBytes) d) cs))
+    (refuse 8 (not (itemsOf (1 + counterBytes) d))
+    (refuse 13 (namedTwice (entries (1 + counterBytes) d))
+    (deduct (entries (1 + counterBytes) d) cs)))
 
 -- 6AH, 6BH: modes ------------------------------------------------------------------------
 

@@ -27,11 +27,11 @@ check n b = record { number = n; holds = b }
 
 -- the greatest number
 abbrev pub greatest : ℕ
-greatest = 12
+greatest = 13
 
--- 7 to 12: their order is said here once more, so that the claim fixes it
+-- 7 to 13: their order is said here once more, so that the claim fixes it
 abbrev pub claimedOrder : List ℕ
-claimedOrder = 7 ∷ 8 ∷ 9 ∷ 10 ∷ 11 ∷ 12 ∷ []
+claimedOrder = 7 ∷ 8 ∷ 9 ∷ 10 ∷ 13 ∷ 11 ∷ 12 ∷ []
 
 unfoldable pub requestChecks : {P : Type 0} → Request P → List Check
 requestChecks q = map (λ n. check n (q .holds n)) claimedOrder
@@ -96,7 +96,7 @@ isBroadcast (temperature good tenths) = false
 isBroadcast (spinel f) = eqb (spinelTo f) spinelBroadcast
 isBroadcast (modbus f) = eqb (modbusTo f) modbusBroadcast
 
--- what a call refused by n, 7 to 12, is answered
+-- what a call refused by n, 7 to 13, is answered
 unfoldable pub refusalReply : ℕ → Act → Module → List ℕ
 refusalReply n (sample bits) m = []
 refusalReply n (temperature good tenths) m = []
@@ -111,7 +111,7 @@ pub record Refusals (m : Module) (c : Call) : Type 0 where
   pub most : step m c .refusal ≤ greatest
   -- 1 to 6: the state is the state before, the reply's length 0
   pub early : 1 ≤ step m c .refusal → step m c .refusal ≤ 6 → (step m c .after ≡ m) × (step m c .reply ≡ [])
-  -- 7 to 12: it differs at most in that port's permission, which has ended
+  -- 7 to 13: it differs at most in that port's permission, which has ended
   pub late : 7 ≤ step m c .refusal → step m c .after ≡ permissionEnded (c .act) m
   -- and the reply is that number's ACK or exception, without data
   pub told : 7 ≤ step m c .refusal → step m c .reply ≡ refusalReply (step m c .refusal) (c .act) m

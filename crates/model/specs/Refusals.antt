@@ -1,4 +1,4 @@
--- 01, the twelve refusals, in the order of their checks: each condition by its name.
+-- 01 and E1, the refusals in the order of their checks: each condition by its name.
 use Prim.Native.Nat.{ℕ, zero, suc, _-_, _/_, _%_}
 use mathlib.Core.Bool.{Bool, true, false, cond, not, _&&_, _||_}
 use mathlib.Core.List.{List, [], _∷_}
@@ -49,15 +49,16 @@ spinelBroadcastWrong to i = eqb to spinelBroadcast && not (eqb i 0x20 || (eqb i 
 unfoldable pub modbusBroadcastWrong : ℕ → ℕ → Bool
 modbusBroadcastWrong to fn = eqb to modbusBroadcast && not (eqb fn 0x05 || eqb fn 0x0F)
 
--- 7 to 12, in the order in which they are looked at:
+-- 7 to 13, in the order in which they are looked at:
 -- 7. a code that 01 gives no meaning
 -- 8. more or less data than the code takes, a byte count that does not fit, or a quantity that the function does not take
 -- 9. registers or coils outside the groups that the function serves, across the end of one, or none, too many or wrongly placed for theirs
 -- 10. configuring while the port is not permitted to; also E4H and E0H sent to the universal address
+-- 13. a list of deductions, of 61H, with the same number twice
 -- 11. a number, mode, time or other value that its place does not take, or more to deduct than was counted
 -- 12. an output that its thermostat does not let go of now
 unfoldable pub checkingOrder : List ℕ
-checkingOrder = 7 ∷ 8 ∷ 9 ∷ 10 ∷ 11 ∷ 12 ∷ []
+checkingOrder = 7 ∷ 8 ∷ 9 ∷ 10 ∷ 13 ∷ 11 ∷ 12 ∷ []
 
 -- A request that has passed 1 to 6, on the part P of the state that it may change: which of these hold, and what it comes to where none does.
 pub record Request (P : Type 0) : Type 0 where

@@ -1,7 +1,11 @@
-// What decoded entries must be by themselves, whatever the state: one loop for every rule.
+// What decoded entries must be by themselves, whatever the state: one loop for every rule, and whether a number stands twice.
 ghost use mathlib.Core.Path.{_≡_};
-ghost use Rattle.lists.specs.Tests.{all};
+ghost use lib.Dec.{eqb};
+ghost use lib.ListN.{drop};
+ghost use Rattle.lists.specs.Tests.{all, any};
 ghost use Rattle.lists.specs.Entries.{entriesIn};
+ghost use Rattle.lists.specs.declared.Entry.{Entry as EntryOf};
+ghost use Rattle.model.specs.Counters.{namedTwice};
 ghost use Rattle.model.specs.Registers.{portSettable};
 ghost use Rattle.rules.specs.Rules.{keepsRule};
 use lists::Entries;
@@ -50,4 +54,36 @@ pub fn all_keep(rule: Rule, es: Entries) -> bool
         i += 1;
     }
     true
+}
+
+// Whether an entry from a place on has this number.
+fn named_from(number: usize, es: Entries, from: usize) -> bool
+    ensures { λ r. ⌜ r ≡ any (λ (e : EntryOf). eqb number (e .number)) (drop from (entriesIn es)) ⌝ }
+{
+    let n = entries::count(es);
+    let mut at = from;
+    while at < n {
+        let e = entries::entry_at(es, at);
+        if number == e.number {
+            return true;
+        }
+        at += 1;
+    }
+    false
+}
+
+// Whether some number stands twice: each is looked for among those behind it, so that sixteen entries take 120 looks at most.
+pub fn named_twice(es: Entries) -> bool
+    ensures { λ r. ⌜ r ≡ namedTwice (entriesIn es) ⌝ }
+{
+    let n = entries::count(es);
+    let mut i = 0;
+    while i < n {
+        let e = entries::entry_at(es, i);
+        if named_from(e.number, es, i + 1) {
+            return true;
+        }
+        i += 1;
+    }
+    false
 }
