@@ -42,7 +42,7 @@ fn modbus(function: u8, body: &[u8]) -> Vec<u8> {
 // Twelve inputs, twelve deductions of 1, sixteen counters, twelve deductions of 1.
 pub fn requests() -> [Request; 4] {
     let inputs: Vec<u8> = (1..=12).collect();
-    let deductions: Vec<u8> = (1..=12).flat_map(|i| [i, 0, 1]).collect();
+    let deductions: Vec<u8> = (1..=12).flat_map(|i| [i, 0, 0, 0, 1]).collect();
     let amounts = [&[0, 200, 0, 12, 24][..], &[0, 1].repeat(12)].concat();
     [
         Request { name: "Spinel 60H", modbus: false, frame: spinel(0x60, &inputs) },
@@ -119,7 +119,8 @@ fn compare_range(first: u8, n: u8) -> u32 {
 pub fn alike() -> u32 {
     let four: u32 = requests().iter().map(compare_request).sum();
     let single: u32 = (0..=255).map(|byte| compare_data(&[byte])).sum();
-    let lengths: u32 = (0..=42).map(|n| compare_data(&[1, 2, 3].repeat(14)[..n])).sum();
+    let items: Vec<u8> = (1..=14).flat_map(|i| [i, 0, 0, i, 3]).collect();
+    let lengths: u32 = (0..=70).map(|n| compare_data(&[1, 2, 3].repeat(24)[..n]) + compare_data(&items[..n])).sum();
     let ranges: u32 = (0..40).flat_map(|first| (0..=20).map(move |n| compare_range(first, n))).sum();
     four + single + lengths + ranges
 }

@@ -1,6 +1,9 @@
 // The rules of four requests in plain Rust, on `&mut Module`: Spinel 60H and 61H, Modbus 03 of counters and 10H of deductions.
 use crate::module::*;
 
+// A deduction of 61H: a number and an amount of four bytes.
+const ITEM: usize = 5;
+
 pub struct Answer {
     pub refusal: u8,
     pub len: usize,
@@ -12,7 +15,7 @@ pub struct Answer {
 pub struct Outcome {
     pub written: u64,
     pub refusals: u64,
-    pub counters: [u16; 16],
+    pub counters: [u32; 16],
 }
 
 pub fn sum(bytes: &[u8]) -> u8 {
@@ -68,15 +71,15 @@ fn check_modbus(own: u8, frame: &[u8], room: usize) -> Result<(), u8> {
     }
 }
 
-// Whether two triples have the same number.
+// Whether two deductions have the same number.
 fn named_twice(data: &[u8]) -> bool {
-    (0..data.len()).step_by(3).any(|i| (i + 3..data.len()).step_by(3).any(|j| data[i] == data[j]))
+    (0..data.len()).step_by(ITEM).any(|i| (i + ITEM..data.len()).step_by(ITEM).any(|j| data[i] == data[j]))
 }
 
 impl Module {
     // Counters that cover thousands of deductions, each another number.
     pub fn ready() -> Module {
-        Module { counters: std::array::from_fn(|i| 65535 - i as u16), ..Module::fresh() }
+        Module { counters: std::array::from_fn(|i| 65540 - i as u32), ..Module::fresh() }
     }
 
     // 60H: the length of the reply's data.
@@ -89,19 +92,19 @@ impl Module {
         if !parameters.iter().all(|p| (1..=16).contains(&(p % 64))) {
             return Err(11);
         }
-        out[0] = 16;
-        for (p, place) in parameters.iter().zip(out[1..].chunks_exact_mut(2)) {
+        out[0] = 32;
+        for (p, place) in parameters.iter().zip(out[1..].chunks_exact_mut(4)) {
             let counter = &mut self.counters[*p as usize % 64 - 1];
             place.copy_from_slice(&counter.to_be_bytes());
             if *p >= 128 {
                 *counter = 0;
             }
         }
-        Ok(1 + 2 * parameters.len())
+        Ok(1 + 4 * parameters.len())
     }
 
     // Deductions in turn on a copy, all or none.
-    fn deduct(&mut self, items: impl Iterator<Item = (u8, u16)>) -> Result<usize, u8> {
+    fn deduct(&mut self, items: impl Iterator<Item = (u8, u32)>) -> Result<usize, u8> {
         let mut copy = self.counters;
         for (number, amount) in items {
             let counter = copy.get_mut((number as usize).wrapping_sub(1)).ok_or(11)?;
@@ -116,9 +119,9 @@ impl Module {
         match data {
             [0] => self.counters = [0; 16],
             [_] => return Err(11),
-            _ if data.len() % 3 != 0 || !(1..=12).contains(&(data.len() / 3)) => return Err(8),
+            _ if data.len() % ITEM != 0 || !(1..=12).contains(&(data.len() / ITEM)) => return Err(8),
             _ if named_twice(data) => return Err(13),
-            _ => return self.deduct(data.chunks_exact(3).map(|t| (t[0], word(&t[1..])))),
+            _ => return self.deduct(data.chunks_exact(ITEM).map(|t| (t[0], u32::from_be_bytes([t[1], t[2], t[3], t[4]])))),
         }
         Ok(0)
     }
@@ -147,7 +150,7 @@ impl Module {
         Answer { refusal, len: 9 + n }
     }
 
-    // 03: the length of the reply's body.
+    // 03, each counter by its low 16 bits: the length of the reply's body.
     fn read_registers(&self, body: &[u8], out: &mut [u8]) -> Result<usize, u8> {
         if body.len() != 4 || !(1..=125).contains(&word(&body[2..])) {
             return Err(8);
@@ -158,12 +161,12 @@ impl Module {
         }
         out[0] = 2 * n as u8;
         for (c, place) in self.counters[start - 100..][..n].iter().zip(out[1..].chunks_exact_mut(2)) {
-            place.copy_from_slice(&c.to_be_bytes());
+            place.copy_from_slice(&(*c as u16).to_be_bytes());
         }
         Ok(1 + 2 * n)
     }
 
-    // 10H: the start and the quantity come back.
+    // 10H, amounts of 16 bits from the whole counters: the start and the quantity come back.
     fn write_registers(&mut self, body: &[u8], out: &mut [u8]) -> Result<usize, u8> {
         if body.len() < 5 {
             return Err(8);
@@ -175,7 +178,7 @@ impl Module {
         if start < 200 || start + n > 216 || n > 12 {
             return Err(9);
         }
-        self.deduct((start as u8 - 199..).zip(body[5..].chunks_exact(2).map(word)))?;
+        self.deduct((start as u8 - 199..).zip(body[5..].chunks_exact(2).map(|w| word(w) as u32)))?;
         out[..4].copy_from_slice(&body[..4]);
         Ok(4)
     }

@@ -59,7 +59,7 @@ pub const LOADS: [Load; 2] = [
 pub struct Module {
     pub lines: [Line; 16],
     pub modes: [u8; 16],
-    pub counters: [u16; 16],
+    pub counters: [u32; 16],
     pub sampling: u8,
     pub outputs: [Output; 16],
     pub presets: [Preset; 16],

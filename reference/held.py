@@ -17,7 +17,7 @@ TABLES = {"RackTable": rows.RACK, "Witnesses": rows.WITNESSES, "FrameTable": row
           "CounterTable": rows.COUNTERS, "PortTable": rows.PORTS, "OutputTable": rows.OUTPUTS, "NoticeTable": rows.NOTICES,
           "ThermostatTable": rows.THERMOSTATS, "RegisterTable": rows.REGISTERS, "CoilTable": rows.COILS, "UnreachedTable": rows.UNREACHED}
 # a state that is too far for playing, as the law of Wraps gives it
-NEARER = {"(run freshModule (cycles 32767))": "counted 65534"}
+NEARER = {"(run freshModule (cycles 2147483647))": "counted 4294967294"}
 PROGRAMS = ["rack", "scenarios"]
 LONG = 1000  # samples: no row has more, but the scripts have
 
@@ -185,12 +185,15 @@ def cases(world):
 
 def script_calls(words):
     """The calls of a script's line."""
-    if not words or words[0] not in (b"sample", b"temperature", b"spinel", b"modbus"):
+    if not words or words[0] not in (b"sample", b"toggle", b"temperature", b"spinel", b"modbus"):
         raise play.Wrong(play.UNKNOWN)
     kind, rest = words[0].decode(), words[1:]
     if kind == "sample":
         bits, count = play.sample(rest)
         return [(call(kind, bits), count)]
+    if kind == "toggle":
+        one, other, count = play.toggle(rest)
+        return [(call("sample", one), 1), (call("sample", other), 1)] * count
     return [(call(kind, *(play.temperature(rest) if kind == "temperature" else [tuple(play.frame(rest))])), 1)]
 
 

@@ -6,6 +6,7 @@ import itertools
 from held import Fact, Held
 from translate import python
 
+LIMIT = 4294967296  # a counter is below it
 LONG = 400  # calls: demand 3 is tried on cases of at most so many
 REFUSALS = range(7, 14)  # what a request may be refused by
 
@@ -76,7 +77,7 @@ class Conserved(Fact):
         self.made = tuple(one for line in case.lines for one, count in line.calls for _ in range(count))
 
     def differs(self, values, key):
-        """The sum always; exactly where at most 65,535 stand uncollected at the end, or never more did since the last clearing."""
+        """The sum always; exactly where at most 4,294,967,295 stand uncollected at the end, or never more did since the last clearing."""
         f = naming(values)
         held = f("Cycles.finalTally", self.made)
         events = f("Cycles.events", f("State.freshModule"), self.made)
@@ -84,13 +85,13 @@ class Conserved(Fact):
             account, counter = held["input"](k), f("Cycles.counterNow", self.made, k)
             more = account["edges"] - account["collected"] - counter
             stayed = f("Tally.stayed", k, True, f("Tally.freshTally"), events)
-            if more < 0 or more % 65536 or more and (stayed or f("Tally.uncollected", held, k) <= 65535):
+            if more < 0 or more % LIMIT or more and (stayed or f("Tally.uncollected", held, k) < LIMIT):
                 return True
         return False
 
 
 class Turn(Fact):
-    """The step of Wraps: one cycle more counts two edges, modulo 65,536."""
+    """The step of Wraps: one cycle more counts two edges, modulo 4,294,967,296."""
 
     def __init__(self, world, count):
         super().__init__(world, "Wraps.turn at %d" % count, "law")
@@ -100,7 +101,7 @@ class Turn(Fact):
         """By one cycle from that count."""
         f = naming(values)
         cycle = tuple(f("Exchanges.sampleOf", bits) for bits in (1, 0))
-        return f("Calls.run", f("Wraps.counted", self.count), cycle) != f("Wraps.counted", (self.count + 2) % 65536)
+        return f("Calls.run", f("Wraps.counted", self.count), cycle) != f("Wraps.counted", (self.count + 2) % LIMIT)
 
 
 # A law about a request -----------------------------------------------------------------------
@@ -127,6 +128,6 @@ def laws(world, cases):
         yield from (OnCalls(world, law, case) for case in cases)
     short = [case for case in cases if case.start == "freshModule" and sum(count for line in case.lines for _, count in line.calls) <= LONG]
     yield from (Conserved(world, case).noted() for case in short)
-    yield from (Turn(world, count).noted() for count in (0, 254, 65533, 65534, 65535))
+    yield from (Turn(world, count).noted() for count in (0, 254, 65534, LIMIT - 3, LIMIT - 2, LIMIT - 1))
     sets = (numbers for count in range(len(REFUSALS) + 1) for numbers in itertools.combinations(REFUSALS, count))
     yield from (Judged(world, numbers).noted() for numbers in sets)

@@ -1,10 +1,14 @@
-"""Documents 01 and 02 (E1) in Python, written from the papers alone: the expected bytes of the tables in crates/model/proofs, and of the programs' stored
+"""Documents 01 and 02 (E1, E4) in Python, written from the papers alone: the expected bytes of the tables in crates/model/proofs, and of the programs' stored
 output where 01 gives another reply than a source, are worked out with it. None is captured from the definitions or from the proved code.
 
 Module has a method for each call: sample, temperature, spinel, modbus. Each answers the refusal's number (0: accepted) and the reply's bytes.
 """
 import struct, copy
 from fractions import Fraction
+
+WIDTH = 4  # bytes of a counter: in the replies of 60H, in the amounts of 61H
+LIMIT = 256 ** WIDTH  # a counter that would reach it is 0 again
+ITEM = 1 + WIDTH  # bytes of a deduction of 61H
 
 def f32_bits(t):
     """The bits of the f32 nearest to t/10, ties to even, worked out in fractions."""
@@ -31,6 +35,7 @@ def crc(bs):
 
 def summ(bs): return (255 - sum(bs) % 256) % 256
 def be(v): return bytes([(v >> 8) & 255, v & 255])
+def wide(v): return v.to_bytes(WIDTH, 'big')
 def s16(h, l):
     v = h * 256 + l
     return v - 65536 if v >= 32768 else v
@@ -90,7 +95,7 @@ class Module:
             if self.run[i] >= self.n:
                 self.stable[i] = b; self.run[i] = 0; edges |= 1 << i
                 if (self.mode[i] & 1) if b else (self.mode[i] & 2):
-                    self.cnt[i] = (self.cnt[i] + 1) % 65536
+                    self.cnt[i] = (self.cnt[i] + 1) % LIMIT
         for o in self.out:
             if o.left:
                 o.left -= 1
@@ -161,7 +166,7 @@ class Module:
         lens = {0x10: n in (1, 3), 0x11: n == 0, 0x1A: n % 8 == 0 and 8 <= n <= 96, 0x1B: n <= 12,
                 0x20: one12, 0x23: 2 <= n <= 13, 0x25: one12, 0x26: n % 3 == 0 and 3 <= n <= 36,
                 0x30: n == 0, 0x31: n == 0, 0x33: one12, 0x36: one12, 0x38: one12, 0x51: n == 1,
-                0x60: one12, 0x61: n == 1 or (n % 3 == 0 and 3 <= n <= 36), 0x62: n == 1, 0x63: n == 0,
+                0x60: one12, 0x61: n == 1 or (n % ITEM == 0 and ITEM <= n <= 12 * ITEM), 0x62: n == 1, 0x63: n == 0,
                 0x6A: n % 2 == 0 and 2 <= n <= 24, 0x6B: one12, 0xE0: n == 2, 0xE3: n == 0, 0xE4: n == 0, 0xF0: n == 0}
         if ins not in lens: raise Ref(7)
         if not lens[ins]: raise Ref(8)
@@ -251,9 +256,9 @@ class Module:
             for p in d:
                 if not 1 <= p & 63 <= 16: raise Ref(11)
                 ps.append(((p & 63) - 1, p >> 7))
-        r = b'\x10'
+        r = bytes([8 * WIDTH])
         for k, z in ps:
-            r += be(self.cnt[k])
+            r += wide(self.cnt[k])
             if z: self.cnt[k] = 0
         return r
     def i61(self, d, a, sig, perm):
@@ -261,9 +266,10 @@ class Module:
             if d[0]: raise Ref(11)
             self.cnt = [0]*16
             return b''
-        if len(set(d[::3])) < len(d[::3]): raise Ref(13)
-        for j in range(0, len(d), 3):
-            o, v = d[j], d[j+1]*256 + d[j+2]
+        numbers = d[::ITEM]
+        if len(set(numbers)) < len(numbers): raise Ref(13)
+        for j in range(0, len(d), ITEM):
+            o, v = d[j], int.from_bytes(d[j+1:j+ITEM], 'big')
             if not 1 <= o <= 16 or v > self.cnt[o-1]: raise Ref(11)
             self.cnt[o-1] -= v
         return b''
@@ -370,7 +376,7 @@ class Module:
             if grp == 600 and (q != 4 or st % 4): raise Ref(9)   # 600 is a multiple of 4
             k = st - grp
             if grp == 1: regs = [self.ma, self.ms][k:k+q]
-            elif grp == 100: regs = self.cnt[k:k+q]
+            elif grp == 100: regs = [c & 0xFFFF for c in self.cnt[k:k+q]]
             elif grp == 300: regs = self.mode[k:k+q]
             elif grp == 500: regs = [(0xFF00 if self.out[i].on else 0) + self.remaining(i) for i in range(k, k+q)]
             else:
@@ -439,12 +445,17 @@ if __name__ == '__main__':
     m = Module(); m.spinel(spin(0x31, 1, 0x6A, [1, 3])); m.spinel(spin(0x31, 1, 0x62, [1]))
     for b in (1, 0, 1): m.sample(b)
     assert m.cnt[0] == 3
-    assert m.spinel(spin(0x31, 1, 0x61, [1, 0, 2]))[0] == 0 and m.cnt[0] == 1
-    assert m.spinel(spin(0x31, 1, 0x61, [1, 0, 2]))[0] == 11 and m.cnt[0] == 1
+    assert m.spinel(spin(0x31, 1, 0x61, [1, 0, 0, 0, 2]))[0] == 0 and m.cnt[0] == 1
+    assert m.spinel(spin(0x31, 1, 0x61, [1, 0, 0, 0, 2]))[0] == 11 and m.cnt[0] == 1
     m = Module()
     for _ in range(19): m.sample(1)
     assert m.stable[0] == 0
     m.sample(1); assert m.stable[0] == 1
+    m = Module(); m.mode[0] = 3; m.n = 1; m.cnt[0] = 4294967294
+    m.sample(1); assert m.spinel(spin(0x31, 1, 0x60, [1])) == (0, spin(0x31, 1, 0, h('20FFFFFFFF')))
+    m.sample(0); assert m.spinel(spin(0x31, 1, 0x60, [1])) == (0, spin(0x31, 1, 0, h('2000000000')))
+    m = Module(); m.cnt[:2] = 5, 5
+    assert m.spinel(spin(0x31, 1, 0x61, [1, 0, 0, 0, 1, 2, 0, 0, 0, 9]))[0] == 11 and m.cnt[:2] == [5, 5]
     m = Module(); m.spinel(spin(0x31, 1, 0x23, [1, 0x81]))
     for _ in range(499): m.sample(0)
     assert m.remaining(0) == 1 and m.out[0].on
@@ -453,3 +464,13 @@ if __name__ == '__main__':
     assert Module().modbus(mod(0x31, 3, be(100) + be(125)))[0] == 9
     assert Module().modbus(mod(0x31, 3, be(100) + be(126)))[0] == 8
     print('rack table ok')
+    m = Module(); m.cnt[0] = 0x00010005; m.cnt[15] = 0x12345678
+    assert m.spinel(spin(0x31, 1, 0x60, [0]))[1][7:-2] == h('2000010005' + '00000000' * 14 + '12345678')
+    assert m.modbus(mod(0x31, 3, be(100) + be(16)))[1][3:-2] == h('0005' + '0000' * 14 + '5678')
+    assert m.modbus(mod(0x31, 6, be(200) + be(6)))[0] == 0 and m.cnt[0] == 0xFFFF
+    assert m.modbus(mod(0x31, 6, be(200) + be(0xFFFF)))[0] == 0 and m.cnt[0] == 0
+    assert m.spinel(spin(0x31, 1, 0x61, h('1012345679')))[0] == 11 and m.spinel(spin(0x31, 1, 0x61, h('105678')))[0] == 8
+    assert m.spinel(spin(0x31, 1, 0x61, h('1012340000')))[0] == 0 and m.cnt[15] == 0x5678
+    m.cnt[15] = 0x10000
+    assert m.modbus(mod(0x31, 6, be(115) + be(0)))[0] == 0 and m.cnt[15] == 0
+    print('counters of 32 bits ok')

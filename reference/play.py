@@ -16,12 +16,12 @@ import module
 
 LIMIT = 262144  # bytes of a script
 LONGEST = 300  # bytes of a frame
-CALLS = "expected sample HHHH, sample HHHH N, temperature T or temperature fault"
-UNKNOWN = "unknown word: expected sample, temperature, spinel or modbus"
+CALLS = "expected sample HHHH, sample HHHH N, toggle HHHH HHHH N, temperature T or temperature fault"
+UNKNOWN = "unknown word: expected sample, toggle, temperature, spinel or modbus"
 MISSING = "missing word: " + CALLS
 TOO_MANY = "too many words: " + CALLS
-BAD_HEX = "bad hex: expected four hex digits after sample, two hex digits for each byte of a frame"
-BAD_NUMBER = "bad number: expected 1 to 65535 samples, a temperature of -32768 to 32767 tenths, or fault"
+BAD_HEX = "bad hex: expected four hex digits after sample, twice four after toggle, two hex digits for each byte of a frame"
+BAD_NUMBER = "bad number: expected 1 to 65535 samples or toggles, a temperature of -32768 to 32767 tenths, or fault"
 TOO_LONG = "frame too long: expected at most 300 bytes"
 
 # What is printed: the number of the script's line, "frame", "notice" or "wrong", and the text.
@@ -70,6 +70,15 @@ def sample(rest):
     return bits, decimal(rest[1], 1, 65535) if len(rest) == 2 else 1
 
 
+def toggle(rest):
+    """The bits of both samples, and how many times."""
+    if len(rest) < 3:
+        raise Wrong(MISSING)
+    if len(rest) > 3:
+        raise Wrong(TOO_MANY)
+    return hexadecimal(rest[0], 4), hexadecimal(rest[1], 4), decimal(rest[2], 1, 65535)
+
+
 def temperature(rest):
     """Whether the sample is good, and its tenths."""
     if not rest:
@@ -93,14 +102,22 @@ def answer(number, kind, answered):
     return Printed(number, kind, " ".join([str(refusal)] + ["%02X" % byte for byte in reply]))
 
 
+def samples(m, number, row):
+    """Makes a sample of each of the bits in a row and yields the notices."""
+    for bits in row:
+        answered = m.sample(bits)
+        if answered[1]:
+            yield answer(number, "notice", answered)
+
+
 def call(m, number, first, rest):
     """Makes the calls of a line and yields what is printed of them."""
     if first == b"sample":
         bits, times = sample(rest)
-        for _ in range(times):
-            answered = m.sample(bits)
-            if answered[1]:
-                yield answer(number, "notice", answered)
+        yield from samples(m, number, [bits] * times)
+    elif first == b"toggle":
+        one, other, times = toggle(rest)
+        yield from samples(m, number, [one, other] * times)
     elif first == b"temperature":
         m.temperature(*temperature(rest))
     elif first == b"spinel":

@@ -49,6 +49,11 @@ def C(start, quantity, *packed, **at):
     return M(0x0F, *words(start, quantity), len(packed), *packed, **at)
 
 
+def D(*items, **at):
+    """61H: deductions, each a number and an amount of four bytes."""
+    return S(0x61, *[b for number, amount in items for b in (number, *amount.to_bytes(4, "big"))], **at)
+
+
 def P(bits, times=1, room=256):
     """Samples of the same sixteen bits."""
     return ("sample", bits, times, room)
@@ -132,7 +137,7 @@ def case(name, shows, *calls, answers=None, start="freshModule"):
     return name, shows, start, flat, answers
 
 
-# Rack table, typed from document 01 --------------------------------------------------
+# Rack table, typed from documents 01 and 02 --------------------------------------------------
 
 def ack(*data):
     return 0, spinel_frame(0x31, 2, 0, data)
@@ -143,6 +148,29 @@ def nack(number, code):
 
 
 QUIET = (0, [])
+
+
+def counts(*values):
+    """60H is answered by 20H and four bytes for each counter."""
+    return ack(0x20, *[b for value in values for b in value.to_bytes(4, "big")])
+
+
+def modbus_ack(function, *body, a=0x31):
+    return 0, modbus_frame(a, function, body)
+
+
+def modbus_nack(number, function, code):
+    return number, modbus_frame(0x31, function + 0x80, [code])
+
+
+def shown(*values):
+    """03 is answered by the number of bytes and the registers."""
+    return modbus_ack(3, 2 * len(values), *words(*values))
+
+
+def typed(name, shows, start, *exchanges):
+    """A case from any state, each call with its answer."""
+    return case(name, shows, *[c for c, _ in exchanges], answers=[a for _, a in exchanges], start=start)
 
 
 def state(part, text):
@@ -156,22 +184,28 @@ def inputs(lines, modes, counters, number):
     return f"(withInputs {settings} (record {{ lines = {lines}; counters = {counters} }}))"
 
 
+def counting(*counters):
+    """A fresh module that counts every change of a sample, with these counters, the last of them up to input 16."""
+    *first, last = counters
+    return inputs("replicate 16 freshLine", "replicate 16 3", " ∷ ".join([*map(str, first), f"replicate {16 - len(first)} {last}"]), 1)
+
+
 RACK = [
     case("A", "a preset is set", raw("spinel", 0x2A, 0x61, 0, 8, 0x31, 2, 0x26, 4, 2, 4, 9, 0x0D),
          answers=[(0, [0x2A, 0x61, 0, 5, 0x31, 2, 0, 0x3C, 0x0D])]),
     case("B", "with SUM 0A: 4", raw("spinel", 0x2A, 0x61, 0, 8, 0x31, 2, 0x26, 4, 2, 4, 0x0A, 0x0D), answers=[(4, [])]),
     case("C", "to address 01: 5", raw("spinel", 0x2A, 0x61, 0, 5, 1, 2, 0x31, 0x3B, 0x0D), answers=[(5, [])]),
     case("D", "mode 3, sampling number 1, samples 1 0 1: counter 3; deduct 2 leaves 1; deduct 2: 11",
-         S(0x6A, 1, 3), S(0x62, 1), samples(1, 0, 1), S(0x60, 1), S(0x61, 1, 0, 2), S(0x60, 1), S(0x61, 1, 0, 2),
-         answers=[ack(), ack(), QUIET, QUIET, QUIET, ack(0x10, 0, 3), ack(), ack(0x10, 0, 1), nack(11, 3)]),
+         S(0x6A, 1, 3), S(0x62, 1), samples(1, 0, 1), S(0x60, 1), D((1, 2)), S(0x60, 1), D((1, 2)),
+         answers=[ack(), ack(), QUIET, QUIET, QUIET, ack(0x20, 0, 0, 0, 3), ack(), ack(0x20, 0, 0, 0, 1), nack(11, 3)]),
     case("E", "19 samples of 1, no edge; 20, one",
          S(0x6A, 1, 3), P(1, 19), S(0x31), S(0x60, 1), P(1), S(0x31), S(0x60, 1),
-         answers=[ack(), QUIET, ack(0, 0), ack(0x10, 0, 0), QUIET, ack(0, 1), ack(0x10, 0, 1)]),
-    case("F", "65,534 edges, then one, 65,535; one more: 0", samples(1), S(0x60, 1), samples(0), S(0x60, 1),
-         answers=[QUIET, ack(0x10, 0xFF, 0xFF), QUIET, ack(0x10, 0, 0)], start="(run freshModule (cycles 32767))"),
+         answers=[ack(), QUIET, ack(0, 0), ack(0x20, 0, 0, 0, 0), QUIET, ack(0, 1), ack(0x20, 0, 0, 0, 1)]),
+    case("F", "4,294,967,294 edges, then one, 4,294,967,295; one more: 0", samples(1), S(0x60, 1), samples(0), S(0x60, 1),
+         answers=[QUIET, ack(0x20, 0xFF, 0xFF, 0xFF, 0xFF), QUIET, ack(0x20, 0, 0, 0, 0)], start="(run freshModule (cycles 2147483647))"),
     case("G", "counters 5, 5; deduct 1 and 9: 11; still 5, 5",
-         S(0x6A, 1, 3, 2, 3), S(0x62, 1), samples(3, 0, 3, 0, 3), S(0x61, 1, 0, 1, 2, 0, 9), S(0x60, 1, 2),
-         answers=[ack(), ack(), *[QUIET] * 5, nack(11, 3), ack(0x10, 0, 5, 0, 5)]),
+         S(0x6A, 1, 3, 2, 3), S(0x62, 1), samples(3, 0, 3, 0, 3), D((1, 1), (2, 9)), S(0x60, 1, 2),
+         answers=[ack(), ack(), *[QUIET] * 5, nack(11, 3), ack(0x20, 0, 0, 0, 5, 0, 0, 0, 5)]),
     case("H", "on pulse, time 1: after 499 samples 1 is left; after 500, off",
          S(0x23, 1, 0x81), P(0, 499), S(0x33, 1), P(0), S(0x33, 1),
          answers=[ack(), QUIET, ack(0x81, 1), QUIET, ack(1, 0)]),
@@ -187,7 +221,7 @@ COUNT3 = [S(0x6A, 1, 3, 2, 3), S(0x62, 1)] + samples(3, 0, 3)
 
 WITNESSES = [
     case("deductsAfterJudging", "slip: deducting while still judging. Counters 3, 3, 0; 2, 1 and 1 from them: 11, still 3, 3",
-         COUNT3, S(0x61, 1, 0, 2, 2, 0, 1, 3, 0, 1), S(0x60, 1, 2)),
+         COUNT3, D((1, 2), (2, 1), (3, 1)), S(0x60, 1, 2)),
     case("countsStableChanges", "slip: counting every change of a sample. Six changes, none of them 20 samples long: no edge",
          S(0x6A, 1, 3), samples(1, 0, 1, 0, 1, 0), S(0x31), S(0x60, 1)),
     case("broadcastClearsNothing", "slip: a 60H to all that clears. It is refused by 6, and the counter is still 3",
@@ -199,11 +233,11 @@ WITNESSES = [
     case("countsAndCollects", "cheat: no edge counted, nothing collected. Counter 3; read and zeroed; 0; one more edge, 1",
          COUNT3, S(0x60, 0x81), S(0x60, 1), samples(0), S(0x60, 1)),
     case("ownValues", "cheat: an invented value, a fixed ACK. Counters 3 and 1 in the order asked; ACK 03 and 02 where refused",
-         S(0x6A, 1, 3, 2, 1), S(0x62, 1), samples(3, 0, 1), S(0x60, 2, 1), S(0x61, 2, 0, 2), S(0x70)),
-    case("everyTriple", "cheat: only the first triple is honoured. Counters 3, 3; deduct 1 and 3; 2, 0",
-         COUNT3, S(0x61, 1, 0, 1, 2, 0, 3), S(0x60, 1, 2)),
+         S(0x6A, 1, 3, 2, 1), S(0x62, 1), samples(3, 0, 1), S(0x60, 2, 1), D((2, 2)), S(0x70)),
+    case("everyItem", "cheat: only the first deduction is honoured. Counters 3, 3; deduct 1 and 3; 2, 0",
+         COUNT3, D((1, 1), (2, 3)), S(0x60, 1, 2)),
     case("notAlways11", "cheat: 11 whatever is asked. A deduction that fits, an output that nothing holds",
-         COUNT3, S(0x61, 1, 0, 3), S(0x20, 0x81), S(0x30)),
+         COUNT3, D((1, 3)), S(0x20, 0x81), S(0x30)),
     case("looksBeforeHolding", "cheat: a thermostat that holds unlooked. 20.0 to 30.0: 12 before a reading; free at 25.0 and both ends",
          S(0x1A, *group(1, 0x81, 300, 200)), S(0x20, 0x81), T(250), S(0x20, 0x81), T(200), S(0x20, 1), T(300), S(0x20, 0x81),
          T(301), S(0x20, 1), S(0x20, 0x82), FAULT, S(0x20, 1)),
@@ -292,13 +326,17 @@ SAMPLES = [
     case("refusedSample", "a sample with a buffer of 255 bytes is no sample: no run, no edge, no step of a pulse",
          S(0x62, 2), S(0x6A, 1, 3), samples(1), P(1, room=255), S(0x31), samples(1), S(0x31), S(0x60, 1),
          S(0x23, 1, 0x81), P(1, 499), P(1, room=255), S(0x33, 1), P(1), S(0x33, 1)),
-    case("highCounts", "300 edges: a counter of two bytes, read, deducted and shown by register",
-         S(0x6A, 1, 3), S(0x62, 1), doors(150, 1, 0), S(0x60, 1), S(0x61, 1, 1, 0x2D), S(0x61, 1, 1, 1), S(0x60, 1), R(3, 100, 1),
+    case("highCounts", "300 edges: a counter above one byte, read, deducted and shown by register",
+         S(0x6A, 1, 3), S(0x62, 1), doors(150, 1, 0), S(0x60, 1), D((1, 0x012D)), D((1, 0x0101)), S(0x60, 1), R(3, 100, 1),
          doors(150, 1, 0), R(6, 200, 0x0158), R(6, 200, 0x0101), R(3, 100, 1), S(0x60, 0x81), S(0x60, 1)),
-    case("pastTheLimit", "counters at 65,535, typed: an edge of input 1 makes it 0, the next 1, of which 2 cannot be deducted; input 2 stays",
-         P(1), S(0x60, 1), P(0), S(0x61, 1, 0, 2), S(0x60, 1, 2),
-         answers=[QUIET, ack(0x10, 0, 0), QUIET, nack(11, 3), ack(0x10, 0, 1, 0xFF, 0xFF)],
-         start=inputs("replicate 16 freshLine", "replicate 16 3", "replicate 16 65535", 1)),
+    typed("pastTheLimit", "counters at 4,294,967,295: an edge of input 1 makes it 0, the next 1, of which 2 cannot be deducted; input 2 stays",
+          counting(4294967295),
+          (P(1), QUIET), (S(0x60, 1), ack(0x20, 0, 0, 0, 0)), (P(0), QUIET), (D((1, 2)), nack(11, 3)),
+          (S(0x60, 1, 2), ack(0x20, 0, 0, 0, 1, 0xFF, 0xFF, 0xFF, 0xFF))),
+    typed("pastEachByte", "E4: 65,535 and an edge is 65,536, and so at each end of a byte; an input without an edge keeps its counter",
+          counting(255, 65535, 0x00FFFFFF, 4294967295, 65535, 0),
+          (P(15), QUIET), (S(0x60, 1, 2, 3, 4, 5), ack(0x20, 0, 0, 1, 0, 0, 1, 0, 0, 1, 0, 0, 0, 0, 0, 0, 0, 0, 0, 0xFF, 0xFF)),
+          (P(0), QUIET), (S(0x60, 0), counts(257, 65537, 0x01000001, 1, 65535, *[0] * 11)), (R(3, 100, 6), shown(257, 1, 1, 1, 65535, 0))),
 ]
 
 # Counters over Spinel --------------------------------------------------------------------
@@ -317,32 +355,71 @@ COUNTERS = [
     case("readRefused", "60H: 0 among several, 17, 63: 11, and nothing is zeroed",
          COUNTED, S(0x60, 0x81, 0), S(0x60, 0, 1), S(0x60, 0x81, 17), S(0x60, 17), S(0x60, 0x91), S(0x60, 0x3F), S(0x60, 0x80, 0x80),
          S(0x60, 1, 2, 16)),
-    case("deducted", "61H: amounts up to the counter, input 16, amount 0, 12 triples; one more: 11; nothing changes then",
-         COUNTED, S(0x61, 16, 0, 2), S(0x61, 16, 0, 1), S(0x61, 16, 0, 1), S(0x61, 3, 0, 0), S(0x61, 1, 0, 4), S(0x61, 1, 1, 0),
-         S(0x60, 1, 2, 16), S(0x61, *[b for k in range(12, 1, -1) for b in (k, 0, 0)], 1, 0, 3), S(0x60, 1, 2)),
+    case("deducted", "61H: amounts up to the counter, input 16, amount 0, 12 items; one more: 11; nothing changes then",
+         COUNTED, D((16, 2)), D((16, 1)), D((16, 1)), D((3, 0)), D((1, 4)), D((1, 0x0100)),
+         S(0x60, 1, 2, 16), D(*[(k, 0) for k in range(12, 1, -1)], (1, 3)), S(0x60, 1, 2)),
     case("eachJudged", "61H: a number or an amount at fault, first, in the middle or last of the list: 11, and nothing changes",
-         COUNTED, S(0x61, 1, 0, 4, 2, 0, 1), S(0x61, 1, 0, 1, 2, 0, 3, 16, 0, 1), S(0x61, 1, 0, 1, 2, 0, 1, 16, 0, 2), S(0x61, 1, 0, 0, 2, 0, 0, 3, 0, 0, 16, 0, 2),
-         S(0x61, 1, 0, 0, 2, 0, 0, 3, 0, 0, 17, 0, 0), S(0x61, 0, 0, 0, 1, 0, 1, 2, 0, 1), S(0x60, 1, 2, 16)),
-    case("twelveDeducted", "61H: twelve triples, each with an amount of its own",
-         S(0x6A, *[b for k in range(1, 13) for b in (k, 3)]), S(0x62, 1), samples(0x0FFF, 0, 0x0FFF), S(0x61, *[b for k in range(1, 13) for b in (k, 0, k % 4)]), S(0x60, 0)),
+         COUNTED, D((1, 4), (2, 1)), D((1, 1), (2, 3), (16, 1)), D((1, 1), (2, 1), (16, 2)), D((1, 0), (2, 0), (3, 0), (16, 2)),
+         D((1, 0), (2, 0), (3, 0), (17, 0)), D((0, 0), (1, 1), (2, 1)), S(0x60, 1, 2, 16)),
+    case("twelveDeducted", "61H: twelve items, each with an amount of its own",
+         S(0x6A, *[b for k in range(1, 13) for b in (k, 3)]), S(0x62, 1), samples(0x0FFF, 0, 0x0FFF), D(*[(k, k % 4) for k in range(1, 13)]), S(0x60, 0)),
     case("namedTwice", "61H (E1): a number twice is 13, whatever the amounts, the numbers and their places, and nothing changes",
-         COUNTED, S(0x61, 1, 0, 1, 1, 0, 1), S(0x61, 1, 0, 0, 1, 0, 0), S(0x61, 1, 0, 2, 1, 0, 2), S(0x61, 1, 0, 1, 1, 0, 9), S(0x61, 1, 0, 9, 1, 0, 9),
-         S(0x61, 0, 0, 0, 0, 0, 0), S(0x61, 17, 0, 0, 17, 0, 0), S(0x61, 1, 0, 1, 2, 0, 1, 1, 0, 1), S(0x61, 2, 0, 1, 1, 0, 1, 1, 0, 1),
-         S(0x61, 1, 0, 1, 1, 0, 1, 2, 0, 1), S(0x61, *[b for k in (3, 1, 2, 1, 4) for b in (k, 0, 0)]), S(0x61, *[1, 0, 0] * 3), S(0x61, *[1, 0, 0] * 12),
-         S(0x61, 17, 0, 0, 1, 0, 1, 17, 0, 0), S(0x61, *[b for k in range(1, 12) for b in (k, 0, 0)], 1, 0, 0),
-         S(0x61, 1, 0, 0, *[b for k in range(2, 12) for b in (k, 0, 0)], 11, 0, 0),
-         S(0x61, *[b for k in (1, 2, 3, 4, 5, 6, 7, 8, 5, 10, 11, 12) for b in (k, 0, 0)]), S(0x60, 1, 2, 16)),
+         COUNTED, D((1, 1), (1, 1)), D((1, 0), (1, 0)), D((1, 2), (1, 2)), D((1, 1), (1, 9)), D((1, 9), (1, 9)),
+         D((0, 0), (0, 0)), D((17, 0), (17, 0)), D((1, 1), (2, 1), (1, 1)), D((2, 1), (1, 1), (1, 1)),
+         D((1, 1), (1, 1), (2, 1)), D(*[(k, 0) for k in (3, 1, 2, 1, 4)]), D(*[(1, 0)] * 3), D(*[(1, 0)] * 12),
+         D((17, 0), (1, 1), (17, 0)), D(*[(k, 0) for k in range(1, 12)], (1, 0)),
+         D((1, 0), *[(k, 0) for k in range(2, 12)], (11, 0)),
+         D(*[(k, 0) for k in (1, 2, 3, 4, 5, 6, 7, 8, 5, 10, 11, 12)]), S(0x60, 1, 2, 16)),
     case("namedOnce", "61H (E1): numbers that differ, whatever their amounts: 11 or accepted; 60H, 6AH and 23H may repeat",
-         COUNTED, S(0x61, 17, 0, 0, 1, 0, 1), S(0x61, 0, 0, 0, 1, 0, 1), S(0x61, 0x81, 0, 0, 1, 0, 1), S(0x61, 0xF1, 0, 0, 1, 0, 1), S(0x61, 0, 0, 0, 17, 0, 0),
-         S(0x61, 17, 0, 0, 18, 0, 0), S(0x61, 1, 0, 2, 2, 0, 1, 16, 0, 1), S(0x60, 1, 2, 16), S(0x61, 2, 0, 1, 1, 0, 1), S(0x60, 1, 1), S(0x6A, 1, 3, 1, 3),
+         COUNTED, D((17, 0), (1, 1)), D((0, 0), (1, 1)), D((0x81, 0), (1, 1)), D((0xF1, 0), (1, 1)), D((0, 0), (17, 0)),
+         D((17, 0), (18, 0)), D((1, 2), (2, 1), (16, 1)), S(0x60, 1, 2, 16), D((2, 1), (1, 1)), S(0x60, 1, 1), S(0x6A, 1, 3, 1, 3),
          S(0x23, 1, 0x81, 0x01), S(0x33, 1)),
     case("twiceEndsPermission", "13 (E1) ends the permission, as 11 does; to FE it is answered from the own address",
-         S(0xE4), S(0x61, 1, 0, 0, 1, 0, 0), S(0xE0, 0x32, 7), S(0xE4), S(0x61, 1, 0, 0, 1, 0, 0, a=0xFE), S(0xE0, 0x32, 7), S(0xF0)),
-    case("deductLengths", "61H: no data, 2, 4 and 39 bytes: 8",
-         COUNTED, S(0x61), S(0x61, 1, 0), S(0x61, 1, 0, 1, 1), S(0x61, *[1, 0, 0] * 13), S(0x61, *[17, 9, 9] * 13), S(0x60, 1)),
+         S(0xE4), D((1, 0), (1, 0)), S(0xE0, 0x32, 7), S(0xE4), D((1, 0), (1, 0), a=0xFE), S(0xE0, 0x32, 7), S(0xF0)),
+    case("deductLengths", "61H (E4): 1 to 12 items of five bytes; 8 for none, a part, items of three or four bytes, thirteen; before 13 and 11",
+         COUNTED, S(0x61), S(0x61, 1, 0), S(0x61, 1, 0, 1), S(0x61, 1, 0, 0, 1), S(0x61, 1, 0, 1, 2, 0, 1), S(0x61, 1, 0, 0, 1, 2, 0, 0, 1),
+         S(0x61, 1, 0, 1, 2, 0, 1, 16, 0, 1), S(0x61, 1, 0, 0, 0, 1, 1, 0, 0, 0, 1, 1),
+         S(0x61, *[b for k in range(1, 13) for b in (k, 0, 0)]), S(0x61, *[1, 0, 0] * 13), S(0x61, *[b for k in range(1, 13) for b in (k, 0, 0, 0)]),
+         S(0x61, *[b for k in range(1, 13) for b in (k, 0, 0, 0, 0)][:-1]), S(0x61, *[b for k in range(1, 13) for b in (k, 0, 0, 0, 0)], 13),
+         D(*[(k, 0) for k in range(1, 14)]), D(*[(1, 0)] * 13), D(*[(17, 0x09090909)] * 13), S(0x60, 1, 2, 16),
+         D((1, 1)), D((1, 1), (2, 1)), D((16, 1), (2, 1), (1, 0)), D((2, 0), (16, 0), (1, 1), (3, 0)), D(*[(k, 0) for k in range(5, 17)]), S(0x60, 1, 2, 16)),
     case("deductNumbers", "61H: 0 and 17: 11; of a single byte only 00 clears",
-         COUNTED, S(0x61, 0, 0, 0), S(0x61, 17, 0, 0), S(0x61, 1), S(0x61, 0x80), S(0x61, 1, 0, 1, 17, 0, 0), S(0x60, 1, 2, 16), S(0x61, 0),
+         COUNTED, D((0, 0)), D((17, 0)), S(0x61, 1), S(0x61, 0x80), D((1, 1), (17, 0)), S(0x60, 1, 2, 16), S(0x61, 0),
          S(0x60, 0)),
+    typed("wideRead", "60H (E4): four bytes each, high byte first, in the order asked; 12 parameters; all sixteen in 65 bytes",
+          counting(0x12345678, 65536, 4294967295, 65535, 0x01000000, 0x00FF00FF, 0),
+          (S(0x60, 1), ack(0x20, 0x12, 0x34, 0x56, 0x78)), (S(0x60, 5, 0x41, 2), ack(0x20, 1, 0, 0, 0, 0x12, 0x34, 0x56, 0x78, 0, 1, 0, 0)),
+          (S(0x60, *[1, 3, 4, 6] * 3), counts(*[0x12345678, 0xFFFFFFFF, 0xFFFF, 0x00FF00FF] * 3)),
+          (S(0x60, 0), ack(0x20, 0x12, 0x34, 0x56, 0x78, 0, 1, 0, 0, 0xFF, 0xFF, 0xFF, 0xFF, 0, 0, 0xFF, 0xFF, 1, 0, 0, 0, 0, 0xFF, 0, 0xFF, *[0] * 40))),
+    typed("wideReadAndZero", "60H (E4): bit 7 zeroes all four bytes, a repeat reads 0, the others stay; a refused list zeroes nothing",
+          counting(0x12345678, 65536, 4294967295, 0x01000000, 70000),
+          (S(0x60, 0x81, 17), nack(11, 3)), (S(0x60, 0x81), counts(0x12345678)), (S(0x60, 1), counts(0)),
+          (S(0x60, 2, 0x82, 2, 0xC2, 3), counts(65536, 65536, 0, 0, 4294967295)),
+          (S(0x60, 0x80), counts(0, 0, 4294967295, 0x01000000, *[70000] * 12)), (S(0x60, 0), counts(*[0] * 16))),
+    typed("wideDeducted", "61H (E4): all of a counter, one more: 11; an amount whose low bytes alone would fit: 11",
+          counting(0x12345678, 65536, 5, 4294967295, 0),
+          (D((1, 0x12345679)), nack(11, 3)), (D((1, 0x12345678)), ack()), (D((1, 1)), nack(11, 3)), (D((2, 65537)), nack(11, 3)), (D((2, 1)), ack()),
+          (S(0x60, 1, 2), counts(0, 65535)), (D((2, 65536)), nack(11, 3)), (D((3, 65536)), nack(11, 3)), (D((3, 65536 + 3)), nack(11, 3)),
+          (D((3, 0x01000000)), nack(11, 3)), (D((3, 0x01000005)), nack(11, 3)), (D((3, 0x00050000)), nack(11, 3)), (D((3, 0x05000000)), nack(11, 3)),
+          (D((3, 4294967295)), nack(11, 3)), (S(0x60, 3), counts(5)), (D((3, 5)), ack()), (D((4, 4294967295)), ack()), (S(0x60, 0), counts(0, 65535, *[0] * 14))),
+    typed("eachByteDeducted", "61H (E4): the four bytes of an amount, high byte first, each at its place",
+          counting(0x50505050),
+          (S(0x61, 1, 1, 0, 0, 0), ack()), (S(0x61, 2, 0, 1, 0, 0), ack()), (S(0x61, 3, 0, 0, 1, 0), ack()), (S(0x61, 4, 0, 0, 0, 1), ack()),
+          (S(0x61, 5, 1, 2, 3, 4, 6, 0x50, 0x50, 0x50, 0x4F), ack()),
+          (S(0x60, 1, 2, 3), ack(0x20, 0x4F, 0x50, 0x50, 0x50, 0x50, 0x4F, 0x50, 0x50, 0x50, 0x50, 0x4F, 0x50)),
+          (S(0x60, 4, 5, 6), ack(0x20, 0x50, 0x50, 0x50, 0x4F, 0x4F, 0x4E, 0x4D, 0x4C, 0, 0, 0, 1))),
+    typed("wideRefused", "61H (E4): amounts above 65,535: 11 for one of a list, 13 for a number twice, and nothing changes; then all are taken",
+          counting(100000, 100000, 5, 0),
+          (D((1, 70000), (2, 100001)), nack(11, 3)), (D((2, 65536), (3, 65541)), nack(11, 3)), (D((1, 70000), (17, 0)), nack(11, 3)),
+          (D((2, 70000), (1, 30000), (4, 65536)), nack(11, 3)), (D((1, 70000), (1, 1)), nack(13, 3)), (D((1, 4294967295), (1, 0)), nack(13, 3)),
+          (D((17, 70000), (17, 65536)), nack(13, 3)), (D((1, 70000), (2, 70000), (1, 30000)), nack(13, 3)), (S(0x60, 1, 2, 3), counts(100000, 100000, 5)),
+          (D((2, 99999), (1, 70000)), ack()), (S(0x60, 0), counts(30000, 1, 5, *[0] * 13))),
+    typed("twelveWide", "61H (E4): twelve amounts above 65,535, each from a counter of its own; the four inputs not named keep theirs",
+          counting(*[65537 * k for k in range(1, 17)]),
+          (D(*[(k, 65536 * k) for k in range(16, 4, -1)]), ack()), (S(0x60, 0), counts(65537, 131074, 196611, 262148, *range(5, 17)))),
+    typed("wideCleared", "61H 00 (E4) clears all four bytes of every counter, another byte alone is 11",
+          counting(65536, 4294967295, 0x12345678, 70000),
+          (S(0x61, 1), nack(11, 3)), (S(0x60, 1, 16), counts(65536, 70000)), (S(0x61, 0), ack()), (S(0x60, 0), counts(*[0] * 16))),
     case("modesSet", "6AH: modes 0 to 3 of 1 to 12 inputs, a repeated number takes the last; 6BH shows them",
          S(0x6A, 1, 1, 16, 3, 1, 2), S(0x6B, 1, 16), S(0x6A, *[x for k in range(1, 13) for x in (k, k % 4)]), S(0x6B, 0), S(0x6A, 5, 0), S(0x6B, 5)),
     case("modesRefused", "6AH: no data, odd, 13 pairs: 8; number 0, 17, mode 4: 11, and no mode of the list is set",
@@ -410,6 +487,9 @@ PORTS = [
          FULL, S(0xE4), R(6, 0, 0xFF), R(6, 2, 6), S(0xE0, 0x31, 6), SHOWN, LATER, R(3, 1, 2)),
     case("resetKeepsReadings", "a fault stays one after a reset, and the last valid reading is still compared with",
          S(0x1A, *group(1, 0xC1, 300, 200, 1)), T(300), FAULT, S(0xE3), S(0x51, 1), T(301), S(0x33, 1)),
+    typed("wideReset", "a reset zeroes all four bytes of every counter (E4)",
+          counting(65536, 4294967295, 0x12345678, 70000),
+          (S(0xE3), ack()), (S(0x60, 0), counts(*[0] * 16))),
     case("before", "what the three resets started from",
          FULL, SHOWN, LATER),
 ]
@@ -597,6 +677,29 @@ REGISTERS = [
          S(0x6A, 1, 3, 2, 3, 16, 3), S(0x62, 1), samples(0x8003, 0, 0x8003), R(6, 200, 4), R(6, 200, 1), R(6, 215, 3), R(6, 215, 1), W(200, 1, 4), W(200, 1, 2),
          S(0x60, 1, 2, 16), W(200, *[0] * 12), W(200, *[0] * 13), W(204, *[0] * 12), W(205, *[0] * 12), R(6, 199, 0), R(6, 216, 0), W(199, 0, 0), W(215, 0, 0),
          R(3, 200, 1), S(0x60, 1, 2, 16)),
+    typed("lowHalves", "100 to 115 (E4) show the low 16 bits of each counter, singly and together; 60H shows each whole",
+          counting(65536, 70000, 0x12345678, 4294967295, 65535, 0x00FF0000, *[0x01020304 * k for k in range(7, 16)], 0xABCD0123),
+          (R(3, 100, 16), shown(0, 4464, 0x5678, 0xFFFF, 0xFFFF, 0, *[0x0304 * k for k in range(7, 16)], 0x0123)), (R(3, 102, 1), shown(0x5678)), (R(3, 115, 1), shown(0x0123)),
+          (S(0x60, 0), counts(65536, 70000, 0x12345678, 4294967295, 65535, 0x00FF0000, *[0x01020304 * k for k in range(7, 16)], 0xABCD0123)),
+          (S(0x60, *range(5, 17)), counts(65535, 0x00FF0000, *[0x01020304 * k for k in range(7, 16)], 0xABCD0123))),
+    typed("clearedInFull", "100 to 115 (E4): a zero clears all 32 bits, also where 0 is shown; any other value is 11, the low half shown too",
+          counting(65536, 70000, 0x12345678, 65541, *[0] * 11, 131072),
+          (R(6, 100, 0), modbus_ack(6, *words(100, 0))), (S(0x60, 1, 2), counts(0, 70000)), (R(6, 101, 4464), modbus_nack(11, 6, 3)),
+          (R(6, 101, 1), modbus_nack(11, 6, 3)), (W(102, 0, 5), modbus_nack(11, 0x10, 3)), (W(102, 0x5678), modbus_nack(11, 0x10, 3)),
+          (S(0x60, 1, 2, 3, 4), counts(0, 70000, 0x12345678, 65541)), (W(101, 0, 0), modbus_ack(0x10, *words(101, 2))),
+          (R(6, 115, 0), modbus_ack(6, *words(115, 0))), (S(0x60, 0), counts(0, 0, 0, 65541, *[0] * 12))),
+    typed("deductedInFull", "200 to 215 (E4) by 06: judged against all 32 bits, more than the counter is 11; the high half is taken from too",
+          counting(65536, 65541, 70000, 5, 0x12345678, *[0] * 10, 131072),
+          (R(6, 200, 1), modbus_ack(6, *words(200, 1))), (R(6, 201, 6), modbus_ack(6, *words(201, 6))), (R(6, 202, 65535), modbus_ack(6, *words(202, 65535))),
+          (R(6, 203, 6), modbus_nack(11, 6, 3)), (R(6, 204, 0x5679), modbus_ack(6, *words(204, 0x5679))), (R(6, 215, 65535), modbus_ack(6, *words(215, 65535))),
+          (S(0x60, 0), counts(65535, 65535, 4465, 5, 0x1233FFFF, *[0] * 10, 65537)), (R(3, 100, 5), shown(65535, 65535, 4465, 5, 65535)),
+          (R(6, 202, 4466), modbus_nack(11, 6, 3)), (R(6, 202, 4465), modbus_ack(6, *words(202, 4465))), (S(0x60, 1, 3, 4), counts(65535, 0, 5))),
+    typed("severalInFull", "200 to 215 (E4) by 10H: the same, all or nothing; 12 amounts",
+          counting(65536, 65541, 70000, 5, 65536),
+          (W(200, 1, 6, 65535, 6), modbus_nack(11, 0x10, 3)), (S(0x60, 1, 2, 3, 4), counts(65536, 65541, 70000, 5)),
+          (W(200, 1, 6, 65535, 5), modbus_ack(0x10, *words(200, 4))), (S(0x60, 1, 2, 3, 4), counts(65535, 65535, 4465, 0)),
+          (W(202, 4465, 1), modbus_nack(11, 0x10, 3)), (W(204, *range(1, 13)), modbus_ack(0x10, *words(204, 12))),
+          (S(0x60, 0), counts(65535, 65535, 4465, 0, *range(65535, 65523, -1)))),
     case("modesWritten", "300 to 315: 0 to 3, else 11 and none of the write is set; 9 on both sides",
          R(6, 300, 3), R(6, 315, 2), W(301, 1, 2, 3), R(3, 300, 16), S(0x6B, 0), R(6, 300, 4), R(6, 300, 0x0100), W(300, 0, 4), W(300, *[1] * 16), W(300, *[2] * 17),
          R(6, 299, 0), R(6, 316, 0), W(299, 0, 0), W(315, 0, 0), R(6, 300, 0), R(3, 300, 2)),
@@ -658,58 +761,50 @@ def lines_run(stable, run, number):
     return inputs(f"line {stable} {run} ∷ replicate 15 freshLine", "replicate 16 3", "replicate 16 0", number)
 
 
-def modbus_ack(function, *body, a=0x31):
-    return 0, modbus_frame(a, function, body)
-
-
-def unreached(name, shows, start, *exchanges):
-    return case(name, shows, *[c for c, _ in exchanges], answers=[a for _, a in exchanges], start=start)
-
-
 UNREACHED = [
-    unreached("numberZero", "sampling number 0: a differing sample flips", lines_run("false", 0, 0),
-              (P(1), QUIET), (S(0x31), ack(0, 1)), (S(0x60, 1), ack(0x10, 0, 1)), (S(0x63), ack(0)), (P(1), QUIET), (S(0x60, 1), ack(0x10, 0, 1))),
-    unreached("runOf255", "a run of 255 and a differing sample: it flips; an equal one ends the run", lines_run("false", 255, 255),
-              (P(1), QUIET), (S(0x31), ack(0, 1)), (S(0x60, 1), ack(0x10, 0, 1))),
-    unreached("runEnded", "a run beyond the number and an equal sample: none", lines_run("true", 30, 20),
-              (P(1), QUIET), (P(0), QUIET), (S(0x31), ack(0, 1))),
-    unreached("modeFour", "a mode above 3 selects no edge", inputs("replicate 16 freshLine", "replicate 16 4", "replicate 16 7", 1),
-              (P(1), QUIET), (P(0), QUIET), (S(0x60, 1), ack(0x10, 0, 7)), (S(0x6B, 1), ack(4))),
-    unreached("notANumber", "a float that is no number shows as 0", "(withReading freshModule (freshModule .outputs) (Valid (pos 5) (ofBits binary32 0x7FC0_0000)) (Valid (pos 5) (ofBits binary32 0x7FC0_0000)))",
-              (R(4, 0, 4), modbus_ack(4, 8, 0, 0, 0, 5, 0, 0, 0, 0)), (S(0x51, 0), ack(1, 0x80, 0, 5))),
-    unreached("presetOne", "a preset of another type starts off first, and shows as it is stored", state("Presets", "preset 1 2 ∷ preset 4 1 ∷ replicate 14 freshPreset"),
-              (S(0x36, 1, 2), ack(1, 2, 4, 1)), (S(0x38, 1, 2), ack(1, 4)), (S(0x25, 1, 2), ack()), (S(0x33, 1, 2), ack(1, 2, 2, 1))),
-    unreached("presetTimeZero", "a preset of type 2 or 3 with time 0 is a plain set", state("Presets", "preset 2 0 ∷ preset 3 0 ∷ replicate 14 freshPreset"),
-              (S(0x25, 1, 2), ack()), (S(0x33, 1, 2), ack(0x81, 0, 2, 0)), (P(0), QUIET), (S(0x30), ack(0, 1))),
-    unreached("timeZero", "a thermostat's pulse of TIME 0 is a plain set", state("Thermostats", "thermostat 0xC1 (pos 300) (pos 200) 0 0 ∷ replicate 15 freshThermostat"),
-              (T(300), QUIET), (T(301), QUIET), (S(0x33, 1), ack(0x81, 0))),
-    unreached("limitsExchanged", "TEMPx below TEMPy: above TEMPx goes first; it holds at every reading",
+    typed("numberZero", "sampling number 0: a differing sample flips", lines_run("false", 0, 0),
+          (P(1), QUIET), (S(0x31), ack(0, 1)), (S(0x60, 1), ack(0x20, 0, 0, 0, 1)), (S(0x63), ack(0)), (P(1), QUIET), (S(0x60, 1), ack(0x20, 0, 0, 0, 1))),
+    typed("runOf255", "a run of 255 and a differing sample: it flips; an equal one ends the run", lines_run("false", 255, 255),
+          (P(1), QUIET), (S(0x31), ack(0, 1)), (S(0x60, 1), ack(0x20, 0, 0, 0, 1))),
+    typed("runEnded", "a run beyond the number and an equal sample: none", lines_run("true", 30, 20),
+          (P(1), QUIET), (P(0), QUIET), (S(0x31), ack(0, 1))),
+    typed("modeFour", "a mode above 3 selects no edge", inputs("replicate 16 freshLine", "replicate 16 4", "replicate 16 7", 1),
+          (P(1), QUIET), (P(0), QUIET), (S(0x60, 1), ack(0x20, 0, 0, 0, 7)), (S(0x6B, 1), ack(4))),
+    typed("notANumber", "a float that is no number shows as 0", "(withReading freshModule (freshModule .outputs) (Valid (pos 5) (ofBits binary32 0x7FC0_0000)) (Valid (pos 5) (ofBits binary32 0x7FC0_0000)))",
+          (R(4, 0, 4), modbus_ack(4, 8, 0, 0, 0, 5, 0, 0, 0, 0)), (S(0x51, 0), ack(1, 0x80, 0, 5))),
+    typed("presetOne", "a preset of another type starts off first, and shows as it is stored", state("Presets", "preset 1 2 ∷ preset 4 1 ∷ replicate 14 freshPreset"),
+          (S(0x36, 1, 2), ack(1, 2, 4, 1)), (S(0x38, 1, 2), ack(1, 4)), (S(0x25, 1, 2), ack()), (S(0x33, 1, 2), ack(1, 2, 2, 1))),
+    typed("presetTimeZero", "a preset of type 2 or 3 with time 0 is a plain set", state("Presets", "preset 2 0 ∷ preset 3 0 ∷ replicate 14 freshPreset"),
+          (S(0x25, 1, 2), ack()), (S(0x33, 1, 2), ack(0x81, 0, 2, 0)), (P(0), QUIET), (S(0x30), ack(0, 1))),
+    typed("timeZero", "a thermostat's pulse of TIME 0 is a plain set", state("Thermostats", "thermostat 0xC1 (pos 300) (pos 200) 0 0 ∷ replicate 15 freshThermostat"),
+          (T(300), QUIET), (T(301), QUIET), (S(0x33, 1), ack(0x81, 0))),
+    typed("limitsExchanged", "TEMPx below TEMPy: above TEMPx goes first; it holds at every reading",
               state("Thermostats", "thermostat 0x81 (pos 200) (pos 300) 0 0 ∷ thermostat 0xA1 (pos 200) (pos 300) 0 0 ∷ replicate 14 freshThermostat"),
-              (T(250), QUIET), (S(0x30), ack(0, 1)), (S(0x20, 1), nack(12, 3)), (T(200), QUIET), (S(0x30), ack(0, 2)), (T(301), QUIET), (S(0x30), ack(0, 1))),
-    unreached("errThree", "an ERR above 2 does nothing", state("Thermostats", "thermostat 0x81 (pos 300) (pos 200) 0 3 ∷ replicate 15 freshThermostat"),
-              (T(301), QUIET), (S(0x30), ack(0, 1)), (FAULT, QUIET), (S(0x30), ack(0, 1)),
-              (T(199), QUIET), (S(0x30), ack(0, 0)), (FAULT, QUIET), (S(0x30), ack(0, 0))),
-    unreached("sensorTwo", "another sensor acts on the one reading", state("Thermostats", "thermostat 0x82 (pos 300) (pos 200) 0 2 ∷ replicate 15 freshThermostat"),
-              (T(301), QUIET), (S(0x30), ack(0, 1)), (T(199), QUIET), (S(0x30), ack(0, 0)), (S(0x20, 0x81), nack(12, 3)), (FAULT, QUIET), (S(0x30), ack(0, 1))),
-    unreached("sensorFifteen", "nor has it a part in SS", state("Thermostats", "thermostat 0x9F (pos 300) (pos 200) 0 0 ∷ replicate 15 freshThermostat"),
-              (T(301), QUIET), (S(0x30), ack(0, 1)), (T(199), QUIET), (S(0x30), ack(0, 0)), (S(0x38, 1), ack(0xA1))),
-    unreached("offWithMask", "a notice that is off and has a mask writes nothing, and its mask is shown", state("Notice", "notice 0 0xFFFF 0x05"),
-              (S(0x62, 1), ack()), (P(1), QUIET), (S(0x11), ack(0, 0xFF, 0xFF)), (S(0x10, 1, 0, 1), ack()), (S(0x11), ack(0x61, 0, 1))),
-    unreached("modesLacking", "a mode that the list lacks reads as 0 and selects no edge", inputs("replicate 16 freshLine", "[]", "replicate 16 0", 1),
-              (P(1), QUIET), (P(0), QUIET), (S(0x60, 1), ack(0x10, 0, 0)), (S(0x6B, 1), ack(0)), (S(0x6A, 1, 3), ack()), (S(0x6B, 1), ack(0))),
-    unreached("countersLacking", "a counter that the list lacks reads as 0 and stores nothing", inputs("replicate 16 freshLine", "replicate 16 3", "[]", 1),
-              (P(1), QUIET), (S(0x60, 1), ack(0x10, 0, 0)), (S(0x61, 1, 0, 1), nack(11, 3)), (S(0x61, 1, 0, 0), ack()), (S(0x60, 16), ack(0x10, 0, 0))),
-    unreached("formatOther", "any format but 0 is on, and shows as it is stored", state("Notice", "notice 0x01 0xFFFF 0x05"),
-              (S(0x11), ack(1, 0xFF, 0xFF)), (S(0x10, 1), nack(11, 3)), (S(0x62, 1), ack()), (P(1), (0, spinel_frame(0x31, 5, 0x0D, [0, 1])))),
-    unreached("ownUniversal", "an own address FE is the universal one: no E4H, E0H", state("Spinel", "port 0xFE 6 true"),
-              (S(0xE0, 0x31, 6, a=0xFE), (10, spinel_frame(0xFE, 2, 4, []))), (S(0xE4, a=0xFE), (10, spinel_frame(0xFE, 2, 4, []))), (S(0x30), (5, [])),
-              (S(0xF0, a=0xFE), (0, spinel_frame(0xFE, 2, 0, [0xFE, 6])))),
-    unreached("ownBroadcast", "an own address FF is the broadcast: only 20H, 23H, 25H, and no reply", state("Spinel", "port 0xFF 6 false"),
-              (S(0x30, a=0xFF), (6, [])), (S(0x20, 0x81, a=0xFF), (0, [])), (S(0x30, a=0xFE), (0, spinel_frame(0xFF, 2, 0, [0, 1])))),
-    unreached("ownFF", "a Modbus address FF is an own one as any other", state("Modbus", "port 0xFF 6 false"),
-              (R(5, 0, 0xFF00, a=0xFF), modbus_ack(5, 0, 0, 0xFF, 0, a=0xFF))),
-    unreached("ownZero", "a Modbus address 0 is the broadcast: only 05 and 0F, and no reply", state("Modbus", "port 0 6 true"),
-              (R(1, 0, 16, a=0), (6, [])), (R(6, 1, 5, a=0), (6, [])), (R(5, 0, 0xFF00, a=0), (0, [])), (S(0x30), ack(0, 1))),
+          (T(250), QUIET), (S(0x30), ack(0, 1)), (S(0x20, 1), nack(12, 3)), (T(200), QUIET), (S(0x30), ack(0, 2)), (T(301), QUIET), (S(0x30), ack(0, 1))),
+    typed("errThree", "an ERR above 2 does nothing", state("Thermostats", "thermostat 0x81 (pos 300) (pos 200) 0 3 ∷ replicate 15 freshThermostat"),
+          (T(301), QUIET), (S(0x30), ack(0, 1)), (FAULT, QUIET), (S(0x30), ack(0, 1)),
+          (T(199), QUIET), (S(0x30), ack(0, 0)), (FAULT, QUIET), (S(0x30), ack(0, 0))),
+    typed("sensorTwo", "another sensor acts on the one reading", state("Thermostats", "thermostat 0x82 (pos 300) (pos 200) 0 2 ∷ replicate 15 freshThermostat"),
+          (T(301), QUIET), (S(0x30), ack(0, 1)), (T(199), QUIET), (S(0x30), ack(0, 0)), (S(0x20, 0x81), nack(12, 3)), (FAULT, QUIET), (S(0x30), ack(0, 1))),
+    typed("sensorFifteen", "nor has it a part in SS", state("Thermostats", "thermostat 0x9F (pos 300) (pos 200) 0 0 ∷ replicate 15 freshThermostat"),
+          (T(301), QUIET), (S(0x30), ack(0, 1)), (T(199), QUIET), (S(0x30), ack(0, 0)), (S(0x38, 1), ack(0xA1))),
+    typed("offWithMask", "a notice that is off and has a mask writes nothing, and its mask is shown", state("Notice", "notice 0 0xFFFF 0x05"),
+          (S(0x62, 1), ack()), (P(1), QUIET), (S(0x11), ack(0, 0xFF, 0xFF)), (S(0x10, 1, 0, 1), ack()), (S(0x11), ack(0x61, 0, 1))),
+    typed("modesLacking", "a mode that the list lacks reads as 0 and selects no edge", inputs("replicate 16 freshLine", "[]", "replicate 16 0", 1),
+          (P(1), QUIET), (P(0), QUIET), (S(0x60, 1), ack(0x20, 0, 0, 0, 0)), (S(0x6B, 1), ack(0)), (S(0x6A, 1, 3), ack()), (S(0x6B, 1), ack(0))),
+    typed("countersLacking", "a counter that the list lacks reads as 0 and stores nothing", inputs("replicate 16 freshLine", "replicate 16 3", "[]", 1),
+          (P(1), QUIET), (S(0x60, 1), ack(0x20, 0, 0, 0, 0)), (D((1, 1)), nack(11, 3)), (D((1, 0)), ack()), (S(0x60, 16), ack(0x20, 0, 0, 0, 0))),
+    typed("formatOther", "any format but 0 is on, and shows as it is stored", state("Notice", "notice 0x01 0xFFFF 0x05"),
+          (S(0x11), ack(1, 0xFF, 0xFF)), (S(0x10, 1), nack(11, 3)), (S(0x62, 1), ack()), (P(1), (0, spinel_frame(0x31, 5, 0x0D, [0, 1])))),
+    typed("ownUniversal", "an own address FE is the universal one: no E4H, E0H", state("Spinel", "port 0xFE 6 true"),
+          (S(0xE0, 0x31, 6, a=0xFE), (10, spinel_frame(0xFE, 2, 4, []))), (S(0xE4, a=0xFE), (10, spinel_frame(0xFE, 2, 4, []))), (S(0x30), (5, [])),
+          (S(0xF0, a=0xFE), (0, spinel_frame(0xFE, 2, 0, [0xFE, 6])))),
+    typed("ownBroadcast", "an own address FF is the broadcast: only 20H, 23H, 25H, and no reply", state("Spinel", "port 0xFF 6 false"),
+          (S(0x30, a=0xFF), (6, [])), (S(0x20, 0x81, a=0xFF), (0, [])), (S(0x30, a=0xFE), (0, spinel_frame(0xFF, 2, 0, [0, 1])))),
+    typed("ownFF", "a Modbus address FF is an own one as any other", state("Modbus", "port 0xFF 6 false"),
+          (R(5, 0, 0xFF00, a=0xFF), modbus_ack(5, 0, 0, 0xFF, 0, a=0xFF))),
+    typed("ownZero", "a Modbus address 0 is the broadcast: only 05 and 0F, and no reply", state("Modbus", "port 0 6 true"),
+          (R(1, 0, 16, a=0), (6, [])), (R(6, 1, 5, a=0), (6, [])), (R(5, 0, 0xFF00, a=0), (0, [])), (S(0x30), ack(0, 1))),
 ]
 
 # The tally ------------------------------------------------------------------------------------
@@ -736,19 +831,19 @@ TALLIES = [
     tallied("readOnly", "reading without bit 7 collects nothing; with bits 7 and 6 it does; a repeat adds 0",
             COUNT3 + [S(0x60, 0), S(0x60, 1, 0x41), S(0x60, 2, 0xC2, 0x82, 1)], [(1, 3, 0), (2, 3, 3)]),
     tallied("readRefused", "a refused 60H and one to all collect nothing", COUNT3 + [S(0x60, 0x81, 0), S(0x60, 0x81, 17), S(0x60, 0x80, a=0xFF)], [(1, 3, 0), (2, 3, 0)]),
-    tallied("readHigh", "300 edges read and zeroed: both bytes of the value count", [S(0x6A, 1, 3), S(0x62, 1), doors(150, 1, 0), S(0x60, 0x81)], [(1, 300, 300)]),
+    tallied("readHigh", "300 edges read and zeroed: both low bytes of the value count", [S(0x6A, 1, 3), S(0x62, 1), doors(150, 1, 0), S(0x60, 0x81)], [(1, 300, 300)]),
     tallied("deducted", "three edges of each; 1 and 2, then 1 again deducted; a list refused by 13 or 11 collects nothing",
-            COUNT3 + [S(0x61, 1, 0, 1, 2, 0, 2), S(0x61, 1, 0, 1), S(0x61, 2, 0, 0, 2, 0, 1), S(0x61, 2, 0, 1, 1, 0, 2)], [(1, 3, 2), (2, 3, 2)]),
-    tallied("deductedHigh", "300 edges, 257 deducted by 61H and 40 by register", [S(0x6A, 1, 3), S(0x62, 1), doors(150, 1, 0), S(0x61, 1, 1, 1), R(6, 200, 40)], [(1, 300, 297)]),
+            COUNT3 + [D((1, 1), (2, 2)), D((1, 1)), D((2, 0), (2, 1)), D((2, 1), (1, 2))], [(1, 3, 2), (2, 3, 2)]),
+    tallied("deductedHigh", "300 edges, 257 deducted by 61H and 40 by register", [S(0x6A, 1, 3), S(0x62, 1), doors(150, 1, 0), D((1, 0x0101)), R(6, 200, 40)], [(1, 300, 297)]),
     tallied("deductedByRegisters", "registers 200 and 201, then 201 alone; 215 is input 16",
             [S(0x6A, 16, 3)] + COUNT3 + samples(0x8000) + [W(200, 1, 2), R(6, 201, 1), R(6, 215, 1)], [(1, 4, 1), (2, 4, 3), (16, 1, 1)]),
-    tallied("cleared", "register 101 written with 0 clears input 2 alone", COUNT3 + [S(0x61, 1, 0, 1, 2, 0, 1), R(6, 101, 0)], [(1, 3, 1), (2, 0, 0)]),
+    tallied("cleared", "register 101 written with 0 clears input 2 alone", COUNT3 + [D((1, 1), (2, 1)), R(6, 101, 0)], [(1, 3, 1), (2, 0, 0)]),
     tallied("clearedOne", "register 100 alone by 10H: input 2 keeps its edges", COUNT3 + [W(100, 0)], [(1, 0, 0), (2, 3, 0)]),
     tallied("clearedSome", "registers 101 and 102 written with zeros; a refused write clears nothing", COUNT3 + [W(101, 0, 0), W(100, 0, 1), R(6, 100, 1)], [(1, 3, 0), (2, 0, 0)]),
-    tallied("clearedAll", "61H 00 clears all inputs, 61H 01 does not", COUNT3 + [S(0x61, 1), S(0x61, 1, 0, 1), S(0x61, 0)] + samples(0), [(1, 1, 0), (2, 1, 0)]),
+    tallied("clearedAll", "61H 00 clears all inputs, 61H 01 does not", COUNT3 + [S(0x61, 1), D((1, 1)), S(0x61, 0)] + samples(0), [(1, 1, 0), (2, 1, 0)]),
     tallied("notCleared", "61H 01 is refused and clears nothing", COUNT3 + [S(0x61, 1)], [(1, 3, 0), (2, 3, 0)]),
     tallied("reset", "a reset ends runs, edges and collected: a run of 1, number 2, does not go on",
-            [S(0x6A, 1, 3), S(0x62, 2)] + samples(1, 1, 0) + [S(0x61, 1, 0, 1), S(0xE3)] + samples(0), [(1, 0, 0)]),
+            [S(0x6A, 1, 3), S(0x62, 2)] + samples(1, 1, 0) + [D((1, 1)), S(0xE3)] + samples(0), [(1, 0, 0)]),
     tallied("resetKeeps", "and keeps modes, the number and stable states", [S(0x6A, 1, 2), S(0x62, 2)] + samples(1, 1) + [S(0xE3)] + samples(0, 0, 1, 1), [(1, 1, 0)]),
     tallied("resetByAddress", "E0H with the permission is a reset, without it nothing", COUNT3 + [S(0xE0, 0x31, 6), S(0xE4), S(0xE0, 0x31, 6)] + samples(0), [(1, 1, 0), (2, 1, 0)]),
     tallied("notReset", "E0H without the permission", COUNT3 + [S(0xE0, 0x31, 6), R(6, 1, 0x31)], [(1, 3, 0), (2, 3, 0)]),

@@ -4,7 +4,7 @@ PortTable, OutputTable, NoticeTable, ThermostatTable, RegisterTable, CoilTable, 
 
 Usage, at the repository's root:  reference/tables.py && rt fmt        reference/tables.py --count prints how many rows there are
 
-The cases are in rows.py; what they answer is worked out by module.py, which is written from document 01 alone. The prover then holds the
+The cases are in rows.py; what they answer is worked out by module.py, which is written from documents 01 and 02 alone. The prover then holds the
 definitions to these answers.
 """
 import os
@@ -209,7 +209,7 @@ def uses(text):
 
 
 # states that a law gives, because they are too far for computing
-LAWS = {"(run freshModule (cycles 32767))": "wraps"}
+LAWS = {"(run freshModule (cycles 2147483647))": "wraps"}
 # calls whose CRC a row takes from the definition
 CLOSED = re.compile(r"\b(sent|sentTo|requested|written|switched) ")
 

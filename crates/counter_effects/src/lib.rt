@@ -17,24 +17,24 @@ use lists::Entry;
 use rules::Rule;
 
 // Whether a deduction has the number of an input and is at most its counter.
-fn is_covered(cs: [u16; 16], e: Entry) -> bool
+fn is_covered(cs: [u32; 16], e: Entry) -> bool
     ensures { λ r. ⌜ r ≡ deductible cs e ⌝ }
 {
-    let have = encoding::word_at(cs, entries::place(e));
+    let have = encoding::counter_at(cs, entries::place(e));
     entries::is_numbered(e) & (e.value <= have)
 }
 
 // The counters after a deduction.
-fn deduct_one(cs: [u16; 16], e: Entry) -> [u16; 16]
+fn deduct_one(cs: [u32; 16], e: Entry) -> [u32; 16]
     ensures { λ r. ⌜ r ≡ deductOne cs e ⌝ }
 {
     let k = entries::place(e);
-    let have = encoding::word_at(cs, k);
-    encoding::with_word(cs, k, encoding::less(have, e.value))
+    let have = encoding::counter_at(cs, k);
+    encoding::with_counter(cs, k, encoding::less(have, e.value))
 }
 
 // Whether every deduction is covered.
-fn covers(cs: [u16; 16], es: Entries) -> bool
+fn covers(cs: [u32; 16], es: Entries) -> bool
     ensures { λ r. ⌜ r ≡ all (deductible cs) (entriesIn es) ⌝ }
 {
     let n = entries::count(es);
@@ -49,14 +49,14 @@ fn covers(cs: [u16; 16], es: Entries) -> bool
 }
 
 // Why deductions are refused, or 0.
-pub fn deduct_refusal(cs: [u16; 16], es: Entries) -> u8
+pub fn deduct_refusal(cs: [u32; 16], es: Entries) -> u8
     ensures { λ r. ⌜ r ≡ refusalOf (deduct (entriesIn es) cs) ⌝ }
 {
     encoding::refused_if(!covers(cs, es), 11, 0)
 }
 
 // The counters after the deductions.
-pub fn deduct(cs: [u16; 16], es: Entries) -> [u16; 16]
+pub fn deduct(cs: [u32; 16], es: Entries) -> [u32; 16]
     ensures { λ r. ⌜ r ≡ foldl deductOne cs (entriesIn es) ⌝ }
 {
     let n = entries::count(es);
@@ -78,14 +78,14 @@ pub fn clear_refusal(es: Entries) -> u8
 }
 
 // The counters with each that is named at 0.
-pub fn clear(cs: [u16; 16], es: Entries) -> [u16; 16]
+pub fn clear(cs: [u32; 16], es: Entries) -> [u32; 16]
     ensures { λ r. ⌜ r ≡ foldl clearOne cs (entriesIn es) ⌝ }
 {
     let n = entries::count(es);
     let mut copy = cs;
     let mut i = 0;
     while i < n {
-        let next = encoding::with_word(copy, entries::place(entries::entry_at(es, i)), 0);
+        let next = encoding::with_counter(copy, entries::place(entries::entry_at(es, i)), 0);
         copy = next;
         i += 1;
     }
@@ -96,7 +96,7 @@ pub fn clear(cs: [u16; 16], es: Entries) -> [u16; 16]
 fn set_mode(ms: [u8; 16], e: Entry) -> [u8; 16]
     ensures { λ r. ⌜ r ≡ setModeByte ms e ⌝ }
 {
-    encoding::with_byte(ms, entries::place(e), encoding::low_byte(e.value))
+    encoding::with_byte(ms, entries::place(e), entries::byte(e))
 }
 
 // Why settings of modes are refused, or 0, whatever the modes.

@@ -34,14 +34,14 @@ fn clear_all(m: Module, b: u8) -> Served
     outcomes::settle(refusal, m, outcomes::with_counters(m, [0; 16]))
 }
 
-// 61H of other lengths: an input and an amount for each deduction, no number twice.
+// 61H of other lengths: five bytes for each deduction, the input and the amount, no number twice.
 fn deduct_listed(m: Module, d: &[u8]) -> Served
-    ensures { λ r. ⌜ r ≡ servedOf (judged m (onPart (withCounters m) (refuse 8 (not (itemsOf 3 (now (d .entry)))) (refuse 13 (namedTwice (entries 3 (now (d .entry)))) (deduct (entries 3 (now (d .entry))) (m .inputs .counters)))))) ⌝ }
+    ensures { λ r. ⌜ r ≡ servedOf (judged m (onPart (withCounters m) (refuse 8 (not (itemsOf 5 (now (d .entry)))) (refuse 13 (namedTwice (entries 5 (now (d .entry)))) (deduct (entries 5 (now (d .entry))) (m .inputs .counters)))))) ⌝ }
 {
     let x = m.inputs;
     let cs = x.counters;
-    let es = decoders::triples(d);
-    let wrong = !number_lists::items_of(3, d.len());
+    let es = decoders::fives(d);
+    let wrong = !number_lists::items_of(5, d.len());
     let unfit = counter_effects::deduct_refusal(cs, es);
     let repeated = encoding::refused_if(rules::named_twice(es), 13, unfit);
     let refusal = encoding::refused_if(wrong, 8, repeated);

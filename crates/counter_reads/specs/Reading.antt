@@ -32,6 +32,6 @@ readRest r ps = record {
   reply = extended (r .reply) (valuesRead ps (r .counters));
 }
 
--- before the first: 10H
+-- before the first: 20H
 abbrev pub readStart : List ℕ → Collected
 readStart cs = record { counters = cs; reply = dataOf (counterBits ∷ []) }

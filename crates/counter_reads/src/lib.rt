@@ -10,7 +10,7 @@ use number_lists::NumberBits;
 
 // 60H: the counters after it, and the reply's data.
 pub struct Collected {
-    pub counters: [u16; 16],
+    pub counters: [u32; 16],
     pub reply: Data,
 }
 
@@ -52,13 +52,13 @@ fn every_of(p: u8) -> [u8; 16]
 }
 
 // The counters after one parameter: where it has bit 7, the one read is zeroed.
-fn collect_one(cs: [u16; 16], p: u8) -> [u16; 16]
+fn collect_one(cs: [u32; 16], p: u8) -> [u32; 16]
     ensures { λ r. ⌜ r ≡ readOne cs p ⌝ }
 {
     if p < 128 {
         return cs;
     }
-    encoding::with_word(cs, encoding::index_of(p % 64), 0)
+    encoding::with_counter(cs, encoding::index_of(p % 64), 0)
 }
 
 // One parameter: its counter is read as the copy stood before it.
@@ -68,16 +68,16 @@ fn read_one(r: Collected, p: u8) -> Collected
     let cs = r.counters;
     let sofar = r.reply;
     let counters = collect_one(cs, p);
-    let value = encoding::word_at(cs, encoding::index_of(p % 64));
-    let reply = encoding::push16(sofar, value);
+    let value = encoding::counter_at(cs, encoding::index_of(p % 64));
+    let reply = encoding::push32(sofar, value);
     Collected { counters, reply }
 }
 
-// Before the first parameter: 10H, the counters' width in bits.
-fn read_start(cs: [u16; 16]) -> Collected
+// Before the first parameter: 20H, the counters' width in bits.
+fn read_start(cs: [u32; 16]) -> Collected
     ensures { λ r. ⌜ r ≡ readStart cs ⌝ }
 {
-    let reply = encoding::push(encoding::empty(), 16);
+    let reply = encoding::push(encoding::empty(), 32);
     Collected {
         counters: cs,
         reply,
@@ -85,7 +85,7 @@ fn read_start(cs: [u16; 16]) -> Collected
 }
 
 // The parameters in turn, on a copy of the counters.
-fn read_each(cs: [u16; 16], ps: &[u8]) -> Collected
+fn read_each(cs: [u32; 16], ps: &[u8]) -> Collected
     ensures { λ r. ⌜ r ≡ readRest (readStart cs) (now (ps .entry)) ⌝ }
 {
     let mut r = read_start(cs);
@@ -110,7 +110,7 @@ pub fn read_refusal(d: &[u8]) -> u8
 }
 
 // 60H: read, and collect.
-pub fn collect(cs: [u16; 16], d: &[u8]) -> Collected
+pub fn collect(cs: [u32; 16], d: &[u8]) -> Collected
     ensures { λ r. ⌜ r ≡ readRest (readStart cs) (parameters (now (d .entry))) ⌝ }
 {
     if asks_every(d) {

@@ -65,9 +65,16 @@ module _ (d : List ℕ) (j : ℕ) where
   unfolding entryOf
   pair-place h = sym (entry-at 2 j d (entry 0 0) h ∙ rw (two-from d (2 * j) (omega arith)))
 
-  pub triple-place : j < length d / 3 → entry (getD d (3 * j) 0) (wordAt d (3 * j + 1)) ≡ getD (entries 3 d) j (entry 0 0)
+  -- its four bytes of value are two words
+  pub five-place : j < length d / 5 → entry (getD d (5 * j) 0) (wordAt d (5 * j + 1) * 65536 + wordAt d (5 * j + 3)) ≡ getD (entries 5 d) j (entry 0 0)
   unfolding entryOf
-  triple-place h = sym (entry-at 3 j d (entry 0 0) h ∙ rw (piece 2 (3 * j) d 0 (omega arith), two-from d (3 * j + 1) (omega arith)))
+  five-place h =
+      let k = 5 * j in
+      let third : k + 1 + 1 + 1 ≡ k + 3 = omega arith in
+      sym
+      (entry-at 5 j d (entry 0 0) h
+      ∙ rw (piece 4 k d 0 (omega arith), piece 3 (k + 1) d 0 (omega arith), piece 2 (k + 1 + 1) d 0 (omega arith), third, two-from d (k + 3) (omega arith))
+      (ap (entry (getD d k 0)) (omega arith)))
 
   -- the value at a place
   pub value-place : j < length d / 2 → wordAt d (2 * j) ≡ getD (words d) j 0

@@ -12,11 +12,11 @@ use lists::Entries;
 use lists::Entry;
 use model::Group;
 
-// How bytes stand for entries: a number and its value of one byte or of two, values of two bytes for the registers of a group from one on,
+// How bytes stand for entries: a number and its value of one byte or of four, values of two bytes for the registers of a group from one on,
 // a set byte each, or bits for so many coils from one on.
 enum Layout {
     Pairs,
-    Triples,
+    Fives,
     Registers(Group, u16),
     Sets,
     Coils(u16, u16),
@@ -30,10 +30,10 @@ fn wide(b: u8) -> usize
 }
 
 // A byte as a value.
-fn value(b: u8) -> u16
+fn value(b: u8) -> u32
     ensures { λ r. ⌜ r ≡ b ⌝ }
 {
-    b as u16
+    b as u32
 }
 
 // How many entries there are.
@@ -42,7 +42,7 @@ fn decoded_count(l: Layout, d: &[u8]) -> usize
 {
     match l {
         Layout::Pairs => d.len() / 2,
-        Layout::Triples => d.len() / 3,
+        Layout::Fives => d.len() / 5,
         Layout::Registers(_, _) => d.len() / 2,
         Layout::Sets => d.len(),
         Layout::Coils(_, n) => n as usize,
@@ -59,13 +59,15 @@ fn pair_at(d: &[u8], j: usize) -> Entry
     Entry { number, value }
 }
 
-// The entry of three bytes at a place: a number and a value of two.
-fn triple_at(d: &[u8], j: usize) -> Entry
-    requires { ⌜ j < length (now d) / 3 ⌝ }
-    ensures { λ r. ⌜ r ≡ getD (entries 3 (now (d .entry))) j (entry 0 0) ⌝ }
+// The entry of five bytes at a place: a number and a value of four.
+fn five_at(d: &[u8], j: usize) -> Entry
+    requires { ⌜ j < length (now d) / 5 ⌝ }
+    ensures { λ r. ⌜ r ≡ getD (entries 5 (now (d .entry))) j (entry 0 0) ⌝ }
 {
-    let number = wide(encoding::at(d, 3 * j));
-    let value = encoding::word_from(d, 3 * j + 1);
+    let number = wide(encoding::at(d, 5 * j));
+    let high = encoding::word_from(d, 5 * j + 1);
+    let low = encoding::word_from(d, 5 * j + 3);
+    let value = encoding::be32(high, low);
     Entry { number, value }
 }
 
@@ -75,8 +77,11 @@ fn register_at(g: Group, a: u16, d: &[u8], j: usize) -> Entry
     ensures { λ r. ⌜ r ≡ getD (numbered (numberAt g a) (words (now (d .entry)))) j (entry 0 0) ⌝ }
 {
     let number = groups::number(g, a) + j;
-    let value = encoding::word_from(d, 2 * j);
-    Entry { number, value }
+    let word = encoding::word_from(d, 2 * j);
+    Entry {
+        number,
+        value: word as u32,
+    }
 }
 
 // The set byte at a place: the top bit for on, below it the output's number.
@@ -90,7 +95,7 @@ fn set_at(d: &[u8], j: usize) -> Entry
 }
 
 // Bit j of the bytes, each byte's lowest first; 0 past the end.
-fn bit_of(d: &[u8], j: usize) -> u16
+fn bit_of(d: &[u8], j: usize) -> u32
     ensures { λ r. ⌜ r ≡ getD (now (d .entry)) (j / 8) 0 / 2 ^ (j % 8) % 2 ⌝ }
 {
     let b = encoding::at(d, j / 8);
@@ -114,7 +119,7 @@ fn decoded_at(l: Layout, d: &[u8], j: usize) -> Entry
 {
     match l {
         Layout::Pairs => pair_at(d, j),
-        Layout::Triples => triple_at(d, j),
+        Layout::Fives => five_at(d, j),
         Layout::Registers(g, a) => register_at(g, a, d, j),
         Layout::Sets => set_at(d, j),
         Layout::Coils(a, n) => coil_at(a, n, d, j),
@@ -142,11 +147,11 @@ pub fn pairs(d: &[u8]) -> Entries
     decode(Layout::Pairs, d)
 }
 
-// Numbers, each with a value of two bytes.
-pub fn triples(d: &[u8]) -> Entries
-    ensures { λ r. ⌜ r ≡ entriesOf (take 16 (entries 3 (now (d .entry)))) ⌝ }
+// Numbers, each with a value of four bytes.
+pub fn fives(d: &[u8]) -> Entries
+    ensures { λ r. ⌜ r ≡ entriesOf (take 16 (entries 5 (now (d .entry)))) ⌝ }
 {
-    decode(Layout::Triples, d)
+    decode(Layout::Fives, d)
 }
 
 // Values of two bytes for the inputs or outputs that the group's registers from a on are for.

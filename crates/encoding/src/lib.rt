@@ -1,8 +1,8 @@
-// Two-byte and signed numbers, float words, sixteen-element arrays, and reply data.
+// Two-byte, four-byte and signed numbers, float words, sixteen-element arrays, and reply data.
 ghost use mathlib.Core.Path.{_≡_};
 ghost use mathlib.Core.Bool.{cond};
 ghost use mathlib.Core.List.{[], _∷_};
-ghost use Prim.Native.Nat.{_-_, _/_, _%_, min};
+ghost use Prim.Native.Nat.{_+_, _-_, _*_, _/_, _%_, min};
 ghost use lib.ListN.{getD, set};
 ghost use Rattle.lists.specs.Data.{dataOf, pushed, extended, bytesIn};
 ghost use Rattle.lists.specs.Numbers.{number, wordAt, bytes};
@@ -53,6 +53,15 @@ pub fn push16(d: Data, v: u16) -> Data
     push(push(d, high), low)
 }
 
+// A four-byte number, its high word first.
+pub fn push32(d: Data, v: u32) -> Data
+    ensures { λ r. ⌜ r ≡ extended d (bytes 4 v) ⌝ }
+{
+    let high = high_word(v);
+    let low = low_word(v);
+    push16(push16(d, high), low)
+}
+
 // The length, limited to the array's 256 bytes: a struct may hold any.
 fn within_array(n: usize) -> usize
     ensures { λ r. ⌜ r ≡ min n 256 ⌝ }
@@ -99,6 +108,27 @@ pub fn low_byte(v: u16) -> u8
     (v % 256) as u8
 }
 
+// The number of two words, the high one first.
+pub fn be32(high: u16, low: u16) -> u32
+    ensures { λ r. ⌜ r ≡ high * 65536 + low ⌝ }
+{
+    (high as u32) * 65536 + (low as u32)
+}
+
+// The high word of a four-byte number.
+pub fn high_word(v: u32) -> u16
+    ensures { λ r. ⌜ r ≡ v / 65536 ⌝ }
+{
+    (v / 65536) as u16
+}
+
+// Its low word.
+pub fn low_word(v: u32) -> u16
+    ensures { λ r. ⌜ r ≡ v % 65536 ⌝ }
+{
+    (v % 65536) as u16
+}
+
 // A 16-bit pattern read as two's complement. From 8000H up, what is missing to FFFFH is the number's complement.
 pub fn signed_of(n: u16) -> i16
     ensures { λ r. ⌜ r ≡ signedOf n ⌝ }
@@ -138,20 +168,27 @@ pub fn float_words(x: f32) -> FloatWords
     ensures { λ r. ⌜ r ≡ record { high = floatBits x / 65536; low = floatBits x % 65536 } ⌝ }
 {
     let b = float_bits(x);
-    let high = (b / 65536) as u16;
-    let low = (b % 65536) as u16;
+    let high = high_word(b);
+    let low = low_word(b);
     FloatWords { high, low }
 }
 
 // The word of an index, or 0 where there is none.
-pub fn word_at(cs: [u16; 16], k: usize) -> u16
+pub fn word_at(ws: [u16; 16], k: usize) -> u16
+    ensures { λ r. ⌜ r ≡ getD ws k 0 ⌝ }
+{
+    if k < 16 { ws[k] } else { 0 }
+}
+
+// The counter of an index, or 0 where there is none.
+pub fn counter_at(cs: [u32; 16], k: usize) -> u32
     ensures { λ r. ⌜ r ≡ getD cs k 0 ⌝ }
 {
     if k < 16 { cs[k] } else { 0 }
 }
 
-// The array with one word replaced, where the index has one.
-pub fn with_word(cs: [u16; 16], k: usize, v: u16) -> [u16; 16]
+// The counters with one replaced, where the index has one.
+pub fn with_counter(cs: [u32; 16], k: usize, v: u32) -> [u32; 16]
     ensures { λ r. ⌜ r ≡ set cs k v ⌝ }
 {
     let mut next = cs;
@@ -187,7 +224,7 @@ pub fn index_of(n: u8) -> usize
 }
 
 // The difference, or 0 where it would be negative.
-pub fn less(a: u16, b: u16) -> u16
+pub fn less(a: u32, b: u32) -> u32
     ensures { λ r. ⌜ r ≡ a - b ⌝ }
 {
     if a < b { 0 } else { a - b }

@@ -1,7 +1,7 @@
 // Decoded entries, each a number and a value: made one by one, counted and looked up.
 ghost use mathlib.Core.Path.{_≡_};
 ghost use mathlib.Core.List.{[], _∷_};
-ghost use Prim.Native.Nat.{_-_};
+ghost use Prim.Native.Nat.{_-_, _%_};
 ghost use lib.ListN.{length, getD, take};
 ghost use Rattle.lists.specs.Entries.{entry, entriesOf, entriesIn, entryAdded};
 ghost use Rattle.model.specs.Counters.{isNumber};
@@ -35,7 +35,7 @@ pub fn add(es: Entries, e: Entry) -> Entries
 }
 
 // One value for one number.
-pub fn single(number: usize, value: u16) -> Entries
+pub fn single(number: usize, value: u32) -> Entries
     ensures { λ r. ⌜ r ≡ entriesOf (entry number value ∷ []) ⌝ }
 {
     add(none(), Entry { number, value })
@@ -89,4 +89,11 @@ pub fn place(e: Entry) -> usize
     ensures { λ r. ⌜ r ≡ e .number - 1 ⌝ }
 {
     if e.number < 1 { 0 } else { e.number - 1 }
+}
+
+// The low byte of an entry's value.
+pub fn byte(e: Entry) -> u8
+    ensures { λ r. ⌜ r ≡ e .value % 256 ⌝ }
+{
+    (e.value % 256) as u8
 }

@@ -14,11 +14,11 @@ use Rattle.frame_load.specs.declared.Outcome.{Outcome}
 unfoldable pub actOf : Bool → List ℕ → Act
 actOf toModbus f = cond toModbus (modbus f) (spinel f)
 
--- no call yet: the fresh module with counters that cover thousands of deductions, each another number
+-- no call yet: the fresh module with counters that cover thousands of deductions, each another number, the first of them above 65,535
 unfoldable pub readyToPlay : Played
 readyToPlay = record {
   after = withCounters freshModule
-      (65535 ∷ 65534 ∷ 65533 ∷ 65532 ∷ 65531 ∷ 65530 ∷ 65529 ∷ 65528 ∷ 65527 ∷ 65526 ∷ 65525 ∷ 65524 ∷ 65523 ∷ 65522 ∷ 65521 ∷ 65520 ∷ []);
+      (65540 ∷ 65539 ∷ 65538 ∷ 65537 ∷ 65536 ∷ 65535 ∷ 65534 ∷ 65533 ∷ 65532 ∷ 65531 ∷ 65530 ∷ 65529 ∷ 65528 ∷ 65527 ∷ 65526 ∷ 65525 ∷ []);
   written = 0;
   refusals = 0;
 }

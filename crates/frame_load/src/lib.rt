@@ -18,16 +18,21 @@ struct Played {
 pub struct Outcome {
     pub written: u64,
     pub refusals: u64,
-    pub counters: [u16; 16],
+    pub counters: [u32; 16],
 }
 
-// No call yet: counters that cover thousands of deductions, each another number.
+// No call yet: counters that cover thousands of deductions, each another number, the first of them above 65,535.
 fn ready() -> Played
     ensures { λ r. ⌜ r ≡ readyToPlay ⌝ }
 {
     let mut m = startup::fresh();
     let mut inputs = m.inputs;
     inputs.counters = [
+        65540,
+        65539,
+        65538,
+        65537,
+        65536,
         65535,
         65534,
         65533,
@@ -39,11 +44,6 @@ fn ready() -> Played
         65527,
         65526,
         65525,
-        65524,
-        65523,
-        65522,
-        65521,
-        65520,
     ];
     m.inputs = inputs;
     Played {

@@ -4,7 +4,7 @@ ghost use Prim.Native.Nat.{_<_};
 ghost use Rattle.lists.specs.Tests.{any};
 ghost use Rattle.lists.specs.Numbers.{bitAt};
 ghost use Rattle.model.specs.Samples.{linesSampled, edges, countersSampled};
-ghost use Rattle.inputs.specs.Passes.{anyMasked, sampledOf, stableBits};
+ghost use Rattle.inputs.specs.Passes.{anyMasked, selectedLines, sampledOf, stableBits};
 use model::Inputs;
 use model::Line;
 
@@ -36,22 +36,34 @@ pub fn sample_lines(a: [Line; 16], sampling: u8, bits: u16) -> [Line; 16]
     next
 }
 
-// Every counter by its own line's edge.
-pub fn count_lines(
-    counters: [u16; 16],
-    modes: [u8; 16],
-    was: [Line; 16],
-    now: [Line; 16],
-) -> [u16; 16]
-    ensures { λ r. ⌜ r ≡ countersSampled modes was now counters ⌝ }
+// Which lines have an edge that their mode selects.
+fn selected_lines(modes: [u8; 16], was: [Line; 16], now: [Line; 16]) -> [bool; 16]
+    ensures { λ r. ⌜ r ≡ selectedLines modes was now ⌝ }
 {
-    let mut next = counters;
+    let mut found = [false; 16];
     for i in 0..16usize {
-        let counter = next[i];
         let mode = modes[i];
         let before = was[i];
         let after = now[i];
-        let selected = lines::is_selected(mode, before, after);
+        found[i] = lines::is_selected(mode, before, after);
+    }
+    found
+}
+
+// Every counter by its own line's edge. Edges are bytes and counters four bytes, so each has a pass of its own.
+pub fn count_lines(
+    counters: [u32; 16],
+    modes: [u8; 16],
+    was: [Line; 16],
+    now: [Line; 16],
+) -> [u32; 16]
+    ensures { λ r. ⌜ r ≡ countersSampled modes was now counters ⌝ }
+{
+    let found = selected_lines(modes, was, now);
+    let mut next = counters;
+    for i in 0..16usize {
+        let counter = next[i];
+        let selected = found[i];
         next[i] = lines::count(selected, counter);
     }
     next

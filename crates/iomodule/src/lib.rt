@@ -7,7 +7,7 @@ ghost use Rattle.model.specs.State.{freshModule};
 ghost use Rattle.model.specs.Refusals.{silent, bufferShort};
 ghost use Rattle.model.specs.Calls.{sampleCall, temperatureCall, spinelCall, modbusCall, answerOf, Answered};
 ghost use Rattle.model.specs.Demand1.{RefusalsHold};
-ghost use Rattle.model.specs.Cycles.{CyclesConserved};
+ghost use Rattle.model.specs.Cycles.{CyclesConserved, CyclesConservedFrom};
 use model::Answer;
 use model::Module;
 use outcomes::Handled;
@@ -118,4 +118,9 @@ pub fn refusals_hold()
 // Demand 3: over every list of these calls from the fresh state, edges are collected plus counter. It does nothing.
 pub fn cycles_conserved()
     ensures { λ r. ⌜ CyclesConserved ⌝ }
+{}
+
+// The same from any state and tally that agree in an input (E4), of which the fresh ones are a case. It does nothing.
+pub fn cycles_conserved_from()
+    ensures { λ r. ⌜ CyclesConservedFrom ⌝ }
 {}

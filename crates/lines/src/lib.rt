@@ -39,12 +39,12 @@ pub fn is_selected(mode: u8, was: Line, now: Line) -> bool
     (was.stable != now.stable) & ((mode == 3) | ((mode == 1) & rising) | ((mode == 2) & !rising))
 }
 
-// One more for a selected edge, by `wrapping_add_u16`: the largest value is followed by 0.
-pub fn count(selected: bool, counter: u16) -> u16
+// One more for a selected edge, by `wrapping_add_u32`: the largest value is followed by 0.
+pub fn count(selected: bool, counter: u32) -> u32
     ensures { λ r. ⌜ r ≡ counted selected counter ⌝ }
 {
     if selected {
-        return std::num::wrapping_add_u16(counter, 1);
+        return std::num::wrapping_add_u32(counter, 1);
     }
     counter
 }

@@ -3,10 +3,11 @@ use mathlib.Core.Path.{_≡_, sym, ap, _∙_, refl}
 use mathlib.Core.List.{List, [], _∷_, _++_, append-assoc, append-nil, map, flatMap}
 use Prim.Native.Nat.{ℕ, suc, _+_, _-_, _<_, _≤_}
 use native.Mathlib.Numerals.{add-one}
+use native.Mathlib.Nat.{le-of-eq}
 use native.Mathlib.Omega.{arith}
 use borrow.Author.Tests.{lt-ltb}
 use lib.ListN.{length, set, take, drop, getD, length-append, length-drop, drop-of-length-le, length-map, replicate, length-replicate, replicate-append-replicate}
-use lib.Seq.{set-append-seam, append-snoc, take-suc, set-at, getD-take, drop-cons, length-take-le, take-append-seam, getD-append-add, getD-drop}
+use lib.Seq.{set-append-seam, append-snoc, take-suc, set-at, getD-take, drop-cons, length-take-le, take-append-seam, getD-append-add, getD-drop, take-all}
 use Rattle.lists.specs.Data.{dataOf, pushed, extended, bytesIn, filled, padded, over}
 use Rattle.lists.specs.declared.Data.{Data}
 use Rattle.lists.specs.Numbers.{bytes}
@@ -112,6 +113,10 @@ over-turn {A} d xs old i h k =
     ap (λ (l : List A). set (take i xs ++ l) i (getD xs i d)) (drop-cons old i d k)
     ∙ set-at (take i xs) (getD old i d) (drop (suc i) old) (getD xs i d) i (length-take-le i xs (omega arith))
     ∙ rw (add-one, take-suc xs i d h, append-snoc)
+
+-- sixteen numbers stored one by one over zeros, the last too
+pub over-sixteen : (xs now : List ℕ) (i : ℕ) → length xs ≡ 16 → i ≡ 16 → now ≡ take i xs ++ drop i (replicate 16 0) → now ≡ xs
+over-sixteen xs now i l e h = h ∙ rw e (append-nil (take 16 xs) ∙ take-all 16 xs (le-of-eq l))
 
 -- bytes beyond what was written are as they were
 pub over-beyond : (bs old : List ℕ) (i : ℕ) → getD (over bs old) (length bs + i) 0 ≡ getD old (length bs + i) 0

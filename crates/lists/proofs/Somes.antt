@@ -59,14 +59,23 @@ unfolding someBelow
 none-below f zero h = refl
 none-below f (suc n) h = rw (none-below f n (λ i l. h i (omega arith)), h n (omega arith))
 
--- an indexed map that leaves each element as it is
-pub mapi-same : {A : Type 0} (f : ℕ → A → A) (l : List A) (d : A) → ((i : ℕ) → i < length l → f i (getD l i d) ≡ getD l i d) → mapi f l ≡ l
+-- two indexed maps that make the same of each element
+pub mapi-alike : {A B : Type 0} (f g : ℕ → A → B) (l : List A) (d : A) → ((i : ℕ) → i < length l → f i (getD l i d) ≡ g i (getD l i d)) → mapi f l ≡ mapi g l
 unfolding mapi
-mapi-same f [] d h = refl
-mapi-same f (x ∷ l) d h = first (h 0 (omega arith)) (mapi-same (λ i. f (suc i)) l d (λ i q. h (suc i) (omega arith)))
+mapi-alike f g [] d h = refl
+mapi-alike f g (x ∷ l) d h = first (h 0 (omega arith)) (mapi-alike (λ i. f (suc i)) (λ i. g (suc i)) l d (λ i q. h (suc i) (omega arith)))
   where
-    first : f 0 x ≡ x → mapi (λ i. f (suc i)) l ≡ l → f 0 x ∷ mapi (λ i. f (suc i)) l ≡ x ∷ l
+    first : f 0 x ≡ g 0 x → mapi (λ i. f (suc i)) l ≡ mapi (λ i. g (suc i)) l → f 0 x ∷ mapi (λ i. f (suc i)) l ≡ g 0 x ∷ mapi (λ i. g (suc i)) l
     first e q = rw (e, q)
+
+-- one that leaves each as it is
+mapi-none : {A : Type 0} (l : List A) → mapi (λ i x. x) l ≡ l
+unfolding mapi
+mapi-none [] = refl
+mapi-none (x ∷ l) = ap (x ∷_) (mapi-none l)
+
+pub mapi-same : {A : Type 0} (f : ℕ → A → A) (l : List A) (d : A) → ((i : ℕ) → i < length l → f i (getD l i d) ≡ getD l i d) → mapi f l ≡ l
+mapi-same f l d h = mapi-alike f (λ i x. x) l d h ∙ mapi-none l
 
 -- some of a list of tests passed
 pub some-of : (l : List Bool) → any (λ b. b) l ≡ someBelow (λ i. getD l i false) (length l)

@@ -138,7 +138,7 @@ pub fn start(sampling: u8, mode: u8, mask: u16, rest: u32) -> Played
 }
 
 // What samples leave in a counter and an output, as one number.
-fn left_by(counter: u16, o: Output) -> u64
+fn left_by(counter: u32, o: Output) -> u64
     ensures { λ r. ⌜ r ≡ leftBy counter o ⌝ }
 {
     let both = (counter as u64) + (o.left as u64);

@@ -11,7 +11,7 @@ use Rattle.model.specs.State.{withOutputs, withModbus, withCounters, withModes,
 use Rattle.model.specs.Refusals.{Request, onPart}
 use Rattle.model.specs.Counters.{deduct, setModes}
 use Rattle.model.specs.Outputs.{actOn, pulseOutputs}
-use Rattle.model.specs.Registers.{portGroup, counterGroup, modeGroup, outputGroup, readWords, portWords, outputWord, readThermostat}
+use Rattle.model.specs.Registers.{portGroup, counterGroup, modeGroup, outputGroup, readWords, portWords, counterWord, outputWord, readThermostat}
 use Rattle.model.specs.Registers.{writePermission, writePort, writeCounters, writeDeductions, writeModes, writePulse, writeThermostat}
 use Rattle.model.specs.Modbus.{noGroup, registersRead, registersWritten}
 
@@ -28,7 +28,7 @@ module _ (a n : ℕ) (m : Module) where
   unfolding registersRead
   read-at-1 p q = rw (is-within 1 2 a p q)
 
-  pub read-at-100 : 100 ≤ a → a ≤ 115 → readWords counterGroup (m .inputs .counters) a n ≡ registersRead a n m
+  pub read-at-100 : 100 ≤ a → a ≤ 115 → readWords counterGroup (map counterWord (m .inputs .counters)) a n ≡ registersRead a n m
   unfolding registersRead
   read-at-100 p q = rw (not-within 1 2 a (λ x y. omega arith), is-within 100 115 a p q)
 

@@ -9,7 +9,7 @@ ghost use Rattle.model.specs.Refusals.{judged, refuse, reading};
 ghost use Rattle.model.specs.Outputs.{outputStates};
 ghost use Rattle.model.specs.Temperature.{readingWords};
 ghost use Rattle.model.specs.Registers.{portGroup, counterGroup, modeGroup, outputGroup, readingGroup};
-ghost use Rattle.model.specs.Registers.{readWords, readBits, portWords, outputWord, readThermostat};
+ghost use Rattle.model.specs.Registers.{readWords, readBits, portWords, counterWord, outputWord, readThermostat};
 ghost use Rattle.model.specs.Modbus.{startOf, secondOf, quantityWrong, words, registersRead, registersWritten};
 ghost use Rattle.model.specs.Modbus.{coilWritten, registerWritten, coilsWritten, severalWritten, modbusAsked, modbusWire};
 ghost use Rattle.model.specs.Wire.{frameActed, frameHandled};
@@ -68,7 +68,7 @@ fn read_port(m: Module, a: u16, n: u16) -> Served
 
 // 100 to 115
 fn read_counters(m: Module, a: u16, n: u16) -> Served
-    ensures { λ r. ⌜ r ≡ servedOf (judged m (reading m (readWords counterGroup (m .inputs .counters) a n))) ⌝ }
+    ensures { λ r. ⌜ r ≡ servedOf (judged m (reading m (readWords counterGroup (map counterWord (m .inputs .counters)) a n))) ⌝ }
 {
     let x = m.inputs;
     let cs = x.counters;

@@ -7,7 +7,8 @@ use Rattle.model.specs.declared.Module.{Module}
 use Rattle.model.specs.Refusals.{Request}
 use Rattle.model.specs.Tally.{Tally, ifAccepted}
 use Rattle.model.proofs.Judged.{Passes}
-use Rattle.model.proofs.Invariant.{countingOf, Inv}
+use Rattle.model.specs.Cycles.{countingOf}
+use Rattle.model.proofs.Invariant.{Inv}
 
 -- accepted, the request keeps input i's invariant; `after` is the tally by the reply's data
 pub record Good (i : ℕ) (after : List ℕ → Tally) (q : Request Module) : Type 0 where

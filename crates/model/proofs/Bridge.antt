@@ -17,7 +17,7 @@ use Rattle.lists.specs.Entries.{entries, entryOf, numbered}
 use Rattle.lists.proofs.Choices.{and-left, and-right, within-low}
 use Rattle.lists.proofs.ChunkLaws.{chunks-cons, entries-cons}
 use Rattle.model.specs.State.{line}
-use Rattle.model.specs.Samples.{lineSampled, selects, selectedEdge}
+use Rattle.model.specs.Samples.{counterBytes, lineSampled, selects, selectedEdge}
 use Rattle.model.specs.Frames.{modbusBody}
 use Rattle.model.specs.Counters.{zeroes, numberIn, parameters, everyNumber}
 use Rattle.model.specs.Modbus.{startOf, secondOf, countWrong, words}
@@ -79,14 +79,21 @@ module _ (n r mode e c : ℕ) where
 
 -- lists of entries --------------------------------------------------------------
 
-pub amounts-agree : (i : ℕ) (d : List ℕ) → amounts (suc i) d ≡ collectedBy i (entries 3 d)
+-- four bytes as two words, and one after another
+four-bytes : (a b c e : ℕ) → (a * 256 + b) * 65536 + (c * 256 + e) ≡ number (a ∷ b ∷ c ∷ e ∷ [])
+four-bytes a b c e = omega arith
+
+pub amounts-agree : (i : ℕ) (d : List ℕ) → amounts (suc i) d ≡ collectedBy i (entries (1 + counterBytes) d)
 unfolding amounts collectedBy entries entryOf chunks chunksOf
 amounts-agree i [] = refl
 amounts-agree i (n ∷ []) = refl
-amounts-agree i (n ∷ h ∷ []) = refl
-amounts-agree i (n ∷ h ∷ l ∷ d) =
-    ap (cond (eqb n (suc i)) (h * 256 + l) 0 +_) (amounts-agree i d)
-    ∙ sym (ap (collectedBy i) (entries-cons 3 0 (n ∷ h ∷ l ∷ d) (omega arith) (omega arith)))
+amounts-agree i (n ∷ a ∷ []) = refl
+amounts-agree i (n ∷ a ∷ b ∷ []) = refl
+amounts-agree i (n ∷ a ∷ b ∷ c ∷ []) = refl
+amounts-agree i (n ∷ a ∷ b ∷ c ∷ e ∷ d) =
+    ap (λ v. cond (eqb n (suc i)) v 0 + amounts (suc i) d) (four-bytes a b c e)
+    ∙ ap (cond (eqb n (suc i)) (number (a ∷ b ∷ c ∷ e ∷ [])) 0 +_) (amounts-agree i d)
+    ∙ sym (ap (collectedBy i) (entries-cons 5 0 (n ∷ a ∷ b ∷ c ∷ e ∷ d) (omega arith) (omega arith)))
 
 pub modes-given : (i : ℕ) (d : List ℕ) (m : ℕ) → modeGiven (suc i) d m ≡ modeAfter i (entries 2 d) m
 unfolding modeGiven modeAfter entries entryOf chunks chunksOf

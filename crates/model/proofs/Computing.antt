@@ -21,9 +21,9 @@ use Rattle.model.specs.Temperature.{freeAt, levelled, crossed, crossing,
 use Rattle.model.specs.Outputs.{pulsed, remaining, setByte, setOutput, startPulse, actOn, setOutputs, pulseOutputs, setPulses, presetSettable}
 use Rattle.model.specs.Outputs.{setPreset, setPresets, startPreset, presetReady, startPresets, pulseShown, presetShown, modeByte, readStates}
 use Rattle.model.specs.Notice.{setNotice, readNotice, noticed, noticeFrame, noticeWritten}
-use Rattle.model.specs.Registers.{readWords, packed, readBits, outputWord, thermostatWords, readThermostat, writePermission, portSettable}
-use Rattle.model.specs.Registers.{setPortField, writePort, isZero, clearOne, writeCounters, writeDeductions, writeModes, writePulse}
-use Rattle.model.specs.Registers.{wordsThermostat, writeThermostat, writeCoils}
+use Rattle.model.specs.Registers.{readWords, packed, readBits, counterWord, outputWord, thermostatWords, readThermostat, writePermission}
+use Rattle.model.specs.Registers.{portSettable, setPortField, writePort, isZero, clearOne, writeCounters, writeDeductions, writeModes}
+use Rattle.model.specs.Registers.{writePulse, wordsThermostat, writeThermostat, writeCoils}
 use Rattle.model.specs.Spinel.{spinelAsked, spinelRequest}
 use Rattle.model.specs.Modbus.{quantityWrong, countWrong, words, bitsFrom, registersRead, registersWritten, coilWritten, registerWritten}
 use Rattle.model.specs.Modbus.{coilsWritten, severalWritten, modbusAsked}
@@ -49,11 +49,11 @@ unfolding within all any twice mapi bytes bitsNumber chunksOf chunks entryOf ent
     thermostatFits groupThermostat groupFits setGroup setThermostats groupShown readThermostats free freeAt levelled crossed crossing heated
     failed taken pulsed remaining setByte setOutput startPulse actOn setOutputs pulseOutputs setPulses presetSettable setPreset setPresets
     startPreset presetReady startPresets pulseShown presetShown modeByte readStates setNotice readNotice noticed noticeFrame noticeWritten
-    readWords packed readBits outputWord thermostatWords readThermostat writePermission portSettable setPortField writePort isZero clearOne
-    writeCounters writeDeductions writeModes writePulse wordsThermostat writeThermostat writeCoils spinelAsked spinelRequest quantityWrong
-    countWrong words bitsFrom registersRead registersWritten coilWritten registerWritten coilsWritten severalWritten modbusAsked sampled
-    sampleCall temperatureCall step run requestChecks frameChecks checks permissionEnded isBroadcast refusalReply givesPermission resetsModule
-    portPermitted selectedBy sampledAccount amounts modeGiven takenBy takenFrom spinelCollects spinelClears spinelResets spinelMode
+    readWords packed readBits counterWord outputWord thermostatWords readThermostat writePermission portSettable setPortField writePort isZero
+    clearOne writeCounters writeDeductions writeModes writePulse wordsThermostat writeThermostat writeCoils spinelAsked spinelRequest
+    quantityWrong countWrong words bitsFrom registersRead registersWritten coilWritten registerWritten coilsWritten severalWritten modbusAsked
+    sampled sampleCall temperatureCall step run requestChecks frameChecks checks permissionEnded isBroadcast refusalReply givesPermission
+    resetsModule portPermitted selectedBy sampledAccount amounts modeGiven takenBy takenFrom spinelCollects spinelClears spinelResets spinelMode
     spinelSampling writes written modbusCollects modbusClears modbusResets modbusMode changed tallied feed tally clears stayed events
     spinelLeaves registersLeave modbusLeaves leaves flatMap div ofInt ofBits toBits isNan samplesInTurn uncheckedStep uncheckedReplies
 unchecked = tt

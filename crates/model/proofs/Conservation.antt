@@ -1,18 +1,19 @@
--- Demand 3: over every list of calls from a fresh module, edges are collected plus counter plus a multiple of 65,536. Assumes nothing.
+-- Demand 3: over every list of calls from a fresh module, or from any that agrees with its tally, edges are collected plus counter plus a
+-- multiple of 4,294,967,296. Assumes nothing.
 use Prim.Native.Nat.{ℕ, zero, suc, _+_, _-_, _≤_, _<_}
 use native.Mathlib.Omega.{arith}
 use mathlib.Core.Path.{_≡_, refl, sym, _∙_}
 use mathlib.Core.List.{List, [], _∷_, _++_}
 use mathlib.Core.Bool.{Bool, true, false, cond, _&&_, _||_, and-true}
 use lib.ListN.{length, getD, drop}
-use lib.Dec.{eqb}
+use lib.Dec.{eqb, leb}
 use lib.IntN.{ℤ}
 use borrow.Author.Tests.{leb-true}
 use Rattle.lists.specs.Numbers.{bytes}
 use Rattle.lists.proofs.Choices.{and-right, passed}
 use Rattle.model.specs.declared.Module.{Module}
 use Rattle.model.specs.State.{freshModule}
-use Rattle.model.specs.Samples.{inputsSampled}
+use Rattle.model.specs.Samples.{counterBits, inputsSampled}
 use Rattle.model.specs.Frames.{spinelTo, signatureOf, instructionOf, spinelData, spinelBroadcast, spinelReply, sumOf}
 use Rattle.model.specs.Refusals.{Done, Out, ackOf, silent, frameLengthWrong, spinelBroadcastWrong, bufferShort}
 use Rattle.model.specs.Wire.{Wire, frameRefusal, usedUp, requestOf, frameAnswered, frameCall}
@@ -24,9 +25,9 @@ use Rattle.model.specs.declared.Reading.the-variants.{Valid, Fault}
 use Rattle.model.specs.Call.{Act, Call, sample, temperature, spinel, modbus}
 use Rattle.model.specs.Calls.{sampled, sampleCall, temperatureCall, spinelCall, modbusCall, acted, step, run}
 use Rattle.model.specs.Tally.{Tally, Event, tallied, spinelTallied, modbusTallied, ifAccepted, feed, tally, freshTally, uncollected, clears, stayed}
-use Rattle.model.specs.Cycles.{events, finalTally, Conserved, CyclesConserved}
+use Rattle.model.specs.Cycles.{events, Conserved, CyclesConserved, countingOf, Agree, CyclesConservedFrom}
 use Rattle.model.proofs.Judged.{frame-either}
-use Rattle.model.proofs.Invariant.{countingOf, Inv, fresh, sample-keeps}
+use Rattle.model.proofs.Invariant.{Inv, exact-at, agreed, fresh-agrees, sample-keeps}
 use Rattle.model.proofs.Accepted.{Good, if-refused}
 use Rattle.model.proofs.SpinelKeeps.{spinel-good}
 use Rattle.model.proofs.ModbusKeeps.{modbus-good}
@@ -74,10 +75,10 @@ module _ (i : ℕ) (small : i < 16) (m : Module) (t : Tally) (v : Inv i (countin
 
     -- SUM and 0D of a reply to 60H
     abbrev closing : List ℕ → List ℕ
-    closing bs = sumOf (0x2A ∷ 0x61 ∷ bytes 2 (length (0x10 ∷ bs) + 5) ++ m .spinel .address ∷ signatureOf f ∷ ackOf 0 ∷ 0x10 ∷ bs) ∷ 0x0D ∷ []
+    closing bs = sumOf (0x2A ∷ 0x61 ∷ bytes 2 (length (counterBits ∷ bs) + 5) ++ m .spinel .address ∷ signatureOf f ∷ ackOf 0 ∷ counterBits ∷ bs) ∷ 0x0D ∷ []
 
     -- its values stand behind its first eight bytes
-    tail-of : eqb (spinelTo f) spinelBroadcast ≡ false → (bs : List ℕ) → drop 8 (replied 0 (0x10 ∷ bs)) ≡ bs ++ closing bs
+    tail-of : eqb (spinelTo f) spinelBroadcast ≡ false → (bs : List ℕ) → drop 8 (replied 0 (counterBits ∷ bs)) ≡ bs ++ closing bs
     unfolding spinelReply bytes
     tail-of e bs = rw e
 
@@ -112,26 +113,36 @@ unfolding run step tally events feed
 calls-keep i h [] m t v = v
 calls-keep i h (c ∷ cs) m t v = calls-keep i h cs (step m c .after) _ (call-keeps i h m t v (c .room) (c .act) .keeps)
 
--- never more than 65,535 uncollected since the last clearing: not at the end either
-stayed-end : (k : ℕ) (b : Bool) (es : List Event) (t : Tally) → (b ≡ true → uncollected t k ≤ 65535) → stayed k b t es ≡ true → uncollected (tally t es) k ≤ 65535
+-- never more than 4,294,967,295 uncollected since the last clearing: not after the last of some calls either
+stayed-end : (k : ℕ) (b : Bool) (c : Event) (es : List Event) (t : Tally) → stayed k b t (c ∷ es) ≡ true → uncollected (tally t (c ∷ es)) k ≤ 4294967295
 unfolding stayed tally
-stayed-end k b [] t h e = h e
-stayed-end k b (c ∷ es) t h e =
-    stayed-end k _ es (feed t c) (λ q. leb-true (uncollected (feed t c) k) 65535 (and-right (b || eqb (c .refusal) 0 && clears k (c .act)) _ q)) e
+stayed-end k b c [] t e = leb-true (uncollected (feed t c) k) 4294967295 (and-right (b || eqb (c .refusal) 0 && clears k (c .act)) _ e)
+stayed-end k b c (d ∷ es) t e = stayed-end k ((b || eqb (c .refusal) 0 && clears k (c .act)) && leb (uncollected (feed t c) k) 4294967295) d es (feed t c) e
 
--- for the input in place i
-at-place : (calls : List Call) (i : ℕ) → i < 16 → Conserved (suc i) (getD (run freshModule calls .inputs .counters) i 0) (finalTally calls) (events freshModule calls)
-at-place calls i h =
-    let v = calls-keep i h calls freshModule freshTally (fresh i h) in
-    record {
-      times = v .times;
-      sum = v .sum;
-      exact = λ u. omega (arith, v .sum);
-      since = λ s. omega (arith, v .sum, stayed-end (suc i) true (events freshModule calls) freshTally (λ q. omega arith) s);
-    }
+module _ (m : Module) (t : Tally) (i : ℕ) (small : i < 16) (a : Agree (suc i) m t) where
+  -- the module and the tally after some calls, for the input in place i
+  after : (calls : List Call) → Inv i (countingOf (run m calls)) (tally t (events m calls))
+  after calls = calls-keep i small calls m t (agreed i m t a)
 
-pub conserved : CyclesConserved
-conserved calls zero l h = absurd (omega arith)
-conserved calls (suc i) l h =
+  -- without a call the sum is what they agreed in
+  since : (calls : List Call) → stayed (suc i) true t (events m calls) ≡ true
+      → tally t (events m calls) .input (suc i) .edges ≡ tally t (events m calls) .input (suc i) .collected + getD (run m calls .inputs .counters) i 0
+  unfolding run events tally
+  since [] s = exact-at i m t a
+  since (c ∷ cs) s = omega (arith, after (c ∷ cs) .sum, stayed-end (suc i) true _ (events (step m c .after) cs) t s)
+
+  at-place : (calls : List Call) → Conserved (suc i) (getD (run m calls .inputs .counters) i 0) t (events m calls)
+  at-place calls =
+      let v = after calls in
+      record { times = v .times; sum = v .sum; exact = λ u. omega (arith, v .sum); since = since calls }
+
+-- Demand 3 from any module and tally that agree in the input
+pub conserved-from : CyclesConservedFrom
+conserved-from m t zero l h a calls = absurd (omega arith)
+conserved-from m t (suc i) l h a calls =
     let place : suc i - 1 ≡ i = omega arith in
-    rw place (at-place calls i (omega arith))
+    rw place (at-place m t i (omega arith) a calls)
+
+-- and so from fresh ones
+pub conserved : CyclesConserved
+conserved calls k l h = conserved-from freshModule freshTally k l h (fresh-agrees k l h) calls

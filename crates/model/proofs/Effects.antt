@@ -18,9 +18,10 @@ use Rattle.model.specs.declared.Line.{Line}
 use Rattle.model.specs.State.{line, freshLine}
 use Rattle.model.specs.Counters.{isNumber, zeroes, numberIn, readOne, valuesRead, deductible, deductOne, namedTwice, clearedCounters, modeSettable, setMode, runsEnded}
 use Rattle.model.specs.Registers.{clearOne}
-use Rattle.model.specs.Tally.{Account, withRun, withMode, collect, clear, twoAt, valueAt, takenBy, takenFrom}
+use Rattle.model.specs.Tally.{Account, withRun, withMode, collect, clear, twoAt, fourAt, valueAt, takenBy, takenFrom}
 use Rattle.model.proofs.OneInput.{collectedBy, modeAfter, named}
-use Rattle.model.proofs.Invariant.{Counting, At}
+use Rattle.model.specs.Cycles.{Counting}
+use Rattle.model.proofs.Invariant.{At}
 use Rattle.model.proofs.Deductions.{judged-alike}
 
 -- a number of an input is at least 1
@@ -50,11 +51,13 @@ length-fold step h (e ∷ es) l = length-fold step h es (step l e) ∙ h l e
 -- what one counter's value splits into
 record Split (value taken left : ℕ) : Type 0 where
   times : ℕ
-  sum : value ≡ taken + left + 65536 * times
+  sum : value ≡ taken + left + 4294967296 * times
 
--- the value read at p, as its two bytes
+-- the value read at p, as the tally has it of its four bytes
 abbrev shown : List ℕ → ℕ → ℕ
-shown cs p = getD cs (numberIn p - 1) 0 / 256 % 256 * 256 + getD cs (numberIn p - 1) 0 % 256
+shown cs p =
+    let c = getD cs (numberIn p - 1) 0 in
+    (c / 256 / 256 / 256 % 256 * 256 + c / 256 / 256 % 256) * 65536 + (c / 256 % 256 * 256 + c % 256)
 
 read-one : (i p : ℕ) (cs : List ℕ) → i < length cs → 1 ≤ numberIn p → Split (getD cs i 0) (cond (zeroes p && eqb (numberIn p) (suc i)) (shown cs p) 0) (getD (readOne cs p) i 0)
 unfolding readOne
@@ -63,7 +66,7 @@ read-one i p cs h l = go (zeroes p) (eqb (numberIn p) (suc i)) refl
     go : (a b : Bool) → eqb (numberIn p) (suc i) ≡ b → Split (getD cs i 0) (cond (a && b) (shown cs p) 0) (getD (cond a (set cs (numberIn p - 1) 0) cs) i 0)
     go true true e =
         let same : numberIn p - 1 ≡ i = omega (arith, eqb-true (numberIn p) (suc i) e) in
-        record { times = getD cs i 0 / 65536; sum = rw (set-value i (numberIn p) 0 cs h l, e, same) (omega arith) }
+        record { times = getD cs i 0 / 4294967296; sum = rw (set-value i (numberIn p) 0 cs h l, e, same) (omega arith) }
     go true false e = record { times = 0; sum = rw (set-value i (numberIn p) 0 cs h l, e) (omega arith) }
     go false b e = record { times = 0; sum = omega arith }
 
@@ -75,7 +78,7 @@ length-readOne cs p = go (zeroes p)
     go true = length-set cs (numberIn p - 1) 0
     go false = refl
 
--- two bytes at place m of the reply
+-- two bytes at place m of the reply, and four
 two-drop : (m h l : ℕ) (r bs : List ℕ) → drop m r ≡ h ∷ l ∷ bs → twoAt r m ≡ h * 256 + l
 two-drop m h l r bs e =
     let first : getD r m 0 ≡ h = rw (← add-zero m, ← getD-drop m r 0 0, e) in
@@ -84,6 +87,12 @@ two-drop m h l r bs e =
 
 drop-two : (m h l : ℕ) (r bs : List ℕ) → drop m r ≡ h ∷ l ∷ bs → drop (m + 2) r ≡ bs
 drop-two m h l r bs e = rw (← drop-drop 2 m r, e)
+
+four-drop : (m a b c d : ℕ) (r bs : List ℕ) → drop m r ≡ a ∷ b ∷ c ∷ d ∷ bs → fourAt r m ≡ (a * 256 + b) * 65536 + (c * 256 + d)
+four-drop m a b c d r bs e = rw (two-drop m a b r _ e, two-drop (m + 2) c d r bs (drop-two m a b r _ e))
+
+drop-four : (m a b c d : ℕ) (r bs : List ℕ) → drop m r ≡ a ∷ b ∷ c ∷ d ∷ bs → drop (m + 4) r ≡ bs
+drop-four m a b c d r bs e = rw (← drop-drop 4 m r, e)
 
 -- a parameter of one input, in its place
 taken-one : (i p j w : ℕ) (r : List ℕ) → 1 ≤ numberIn p → valueAt r j ≡ w → takenBy (suc i) p j r ≡ cond (zeroes p && eqb (numberIn p) (suc i)) w 0
@@ -97,18 +106,18 @@ taken-one i p j w r h e = rw (e, ne-eqb (numberIn p) 0 (λ q. omega arith)) (go 
 abbrev readable : ℕ → Bool
 readable p = isNumber (numberIn p)
 
-read-splits : (i : ℕ) (ps cs r tail : List ℕ) (j : ℕ) → i < length cs → all readable ps ≡ true → drop (8 + 2 * j) r ≡ valuesRead ps cs ++ tail
+read-splits : (i : ℕ) (ps cs r tail : List ℕ) (j : ℕ) → i < length cs → all readable ps ≡ true → drop (8 + 4 * j) r ≡ valuesRead ps cs ++ tail
     → Split (getD cs i 0) (takenFrom (suc i) ps j r) (getD (foldl readOne cs ps) i 0)
 unfolding valuesRead bytes takenFrom
 read-splits i [] cs r tail j h k e = record { times = 0; sum = omega arith }
 read-splits i (p ∷ ps) cs r tail j h k e =
     let l : 1 ≤ numberIn p = positive (numberIn p) (all-first readable p ps k) in
     let first : Split (getD cs i 0) (cond (zeroes p && eqb (numberIn p) (suc i)) (shown cs p) 0) (getD (readOne cs p) i 0) = read-one i p cs h l in
-    let next : 8 + 2 * suc j ≡ 8 + 2 * j + 2 = omega arith in
-    let others = read-splits i ps (readOne cs p) r tail (suc j) (rw length-readOne h) (all-rest readable p ps k) (rw next (drop-two (8 + 2 * j) _ _ r _ e)) in
+    let next : 8 + 4 * suc j ≡ 8 + 4 * j + 4 = omega arith in
+    let others = read-splits i ps (readOne cs p) r tail (suc j) (rw length-readOne h) (all-rest readable p ps k) (rw next (drop-four (8 + 4 * j) _ _ _ _ r _ e)) in
     record {
       times = first .times + others .times;
-      sum = rw (taken-one i p j (shown cs p) r l (two-drop (8 + 2 * j) _ _ r _ e)) (omega (arith, first .sum, others .sum));
+      sum = rw (taken-one i p j (shown cs p) r l (four-drop (8 + 4 * j) _ _ _ _ r _ e)) (omega (arith, first .sum, others .sum));
     }
 
 -- entries ---------------------------------------------------------------------
@@ -200,7 +209,7 @@ module _ (i : ℕ) (small : i < 16) (x : Counting) (n : ℕ) (u : Account) (v : 
   below = omega (arith, v .counters)
 
   -- other counters, the account's edges and collected as given
-  counts : (cs : List ℕ) (edges collected times : ℕ) → length cs ≡ length (x .counters) → edges ≡ collected + getD cs i 0 + 65536 * times
+  counts : (cs : List ℕ) (edges collected times : ℕ) → length cs ≡ length (x .counters) → edges ≡ collected + getD cs i 0 + 4294967296 * times
       → At i (counted x cs) n (record { stable = u .stable; run = u .run; mode = u .mode; edges = edges; collected = collected })
   counts cs e c k l s = record {
     sampling = v .sampling;

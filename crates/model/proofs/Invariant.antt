@@ -1,7 +1,7 @@
--- What the module's inputs and the tally agree in, for one input; fresh, and after a sample. Assumes nothing.
-use Prim.Native.Nat.{ℕ, suc, _+_, _-_, _*_, _/_, _%_, _^_, _<_}
+-- What the module's inputs and the tally agree in, for one input; from where they agree, and after a sample. Assumes nothing.
+use Prim.Native.Nat.{ℕ, suc, _+_, _-_, _*_, _/_, _%_, _^_, _≤_, _<_}
 use native.Mathlib.Omega.{arith}
-use mathlib.Core.Path.{_≡_, refl, ap, _∙_}
+use mathlib.Core.Path.{_≡_, refl, ap, subst, _∙_}
 use mathlib.Core.Bool.{Bool, true, false, cond}
 use lib.ListN.{length, getD, replicate, getD-replicate}
 use Rattle.lists.specs.Numbers.{bitAt}
@@ -10,19 +10,10 @@ use mathlib.Core.List.{List}
 use Rattle.model.specs.declared.Module.{Module}
 use Rattle.model.specs.declared.Line.{Line}
 use Rattle.model.specs.State.{freshLine, freshModule}
-use Rattle.model.specs.Samples.{lineSampled, linesSampled, selectedEdge, counted, countersSampled}
+use Rattle.model.specs.Samples.{counterModulus, lineSampled, linesSampled, selectedEdge, counted, countersSampled}
 use Rattle.model.specs.Tally.{Tally, Account, sampledAccount, sampledBit, freshTally}
+use Rattle.model.specs.Cycles.{Counting, countingOf, Agree}
 use Rattle.model.proofs.Bridge.{account, sampled-agrees}
-
--- what counting needs of a state
-pub record Counting : Type 0 where
-  pub lines : List Line
-  pub modes : List ℕ
-  pub counters : List ℕ
-  pub sampling : ℕ
-
-abbrev pub countingOf : Module → Counting
-countingOf m = record { lines = m .inputs .lines; modes = m .settings .modes; counters = m .inputs .counters; sampling = m .settings .sampling }
 
 -- n and u are the tally's sampling number and its account of the input in place i, whose number is i + 1
 pub record At (i : ℕ) (x : Counting) (n : ℕ) (u : Account) : Type 0 where
@@ -34,22 +25,50 @@ pub record At (i : ℕ) (x : Counting) (n : ℕ) (u : Account) : Type 0 where
   pub modes : length (x .modes) ≡ 16
   pub counters : length (x .counters) ≡ 16
   pub times : ℕ
-  pub sum : u .edges ≡ u .collected + getD (x .counters) i 0 + 65536 * times
+  pub sum : u .edges ≡ u .collected + getD (x .counters) i 0 + 4294967296 * times
 
 abbrev pub Inv : ℕ → Counting → Tally → Type 0
 Inv i x t = At i x (t .sampling) (t .input (suc i))
 
-pub fresh : (i : ℕ) → i < 16 → Inv i (countingOf freshModule) freshTally
+-- the sum that a module and a tally agree in, by the input's place
+pub exact-at : (i : ℕ) (m : Module) (t : Tally) → Agree (suc i) m t → t .input (suc i) .edges ≡ t .input (suc i) .collected + getD (m .inputs .counters) i 0
+exact-at i m t a =
+    let place : suc i - 1 ≡ i = omega arith in
+    rw place at (a .sum)
+
+-- all that they agree in
+pub agreed : (i : ℕ) (m : Module) (t : Tally) → Agree (suc i) m t → Inv i (countingOf m) t
+agreed i m t a =
+    let place : suc i - 1 ≡ i = omega arith in
+    record {
+      sampling = a .alike .sampling;
+      stable = rw place at (a .alike .stable);
+      run = rw place at (a .alike .run);
+      mode = rw place at (a .alike .mode);
+      lines = a .alike .lines;
+      modes = a .alike .modes;
+      counters = a .alike .counters;
+      times = 0;
+      sum = omega (arith, exact-at i m t a);
+    }
+
+-- fresh ones agree in every input
+pub fresh-agrees : (k : ℕ) → 1 ≤ k → k ≤ 16 → Agree k freshModule freshTally
 unfolding freshModule
-fresh i h =
-    let zeros : _≡_ {A = ℕ} (getD (replicate 16 0) i 0) 0 = getD-replicate {A = ℕ} 16 i 0 0 h in
-    let idle : getD (replicate 16 freshLine) i freshLine ≡ freshLine = getD-replicate {A = Line} 16 i freshLine freshLine h in
-    record { sampling = refl; stable = rw idle; run = rw idle; mode = zeros; lines = refl; modes = refl; counters = refl; times = 0; sum = omega arith }
+fresh-agrees k l h =
+    let zeros : _≡_ {A = ℕ} (getD (replicate 16 0) (k - 1) 0) 0 = getD-replicate {A = ℕ} 16 (k - 1) 0 0 (omega arith) in
+    let idle : getD (replicate 16 freshLine) (k - 1) freshLine ≡ freshLine = getD-replicate {A = Line} 16 (k - 1) freshLine freshLine (omega arith) in
+    record {
+      alike = record { sampling = refl; stable = rw idle; run = rw idle; mode = zeros; lines = refl; modes = refl; counters = refl };
+      sum = omega arith;
+    }
 
 -- a counter that counts, with the wraps it has made
-wraps : (b : Bool) (c : ℕ) → c + cond b 1 0 ≡ counted b c + 65536 * cond b ((c + 1) / 65536) 0
+wraps : (b : Bool) (c : ℕ) → c + cond b 1 0 ≡ counted b c + 4294967296 * cond b ((c + 1) / 4294967296) 0
 unfolding counted
-wraps true c = omega arith
+wraps true c =
+    let width : counterModulus ≡ 4294967296 = refl in
+    rw width (omega arith)
 wraps false c = omega arith
 
 -- the same account, the state and run those of the line
@@ -98,6 +117,6 @@ module _ (i : ℕ) (small : i < 16) (x : Counting) (n : ℕ) (u : Account) (bits
         lines = length-mapi _ (x .lines) ∙ v .lines;
         modes = v .modes;
         counters = length-mapi _ (x .counters) ∙ v .counters;
-        times = v .times + cond (selectedEdge (u .mode) was now) ((getD (x .counters) i 0 + 1) / 65536) 0;
+        times = v .times + cond (selectedEdge (u .mode) was now) ((getD (x .counters) i 0 + 1) / 4294967296) 0;
         sum = rw counter-at (omega (arith, v .sum, wraps (selectedEdge (u .mode) was now) (getD (x .counters) i 0)));
       })

@@ -22,7 +22,8 @@ use Rattle.model.specs.Registers.{permissionGroup, portGroup, counterGro
 use Rattle.model.specs.Modbus.{startOf, secondOf, countWrong, words, registersRead, registersWritten, answering, coilWritten, registerWritten, coilsWritten, severalWritten, modbusAsked}
 use Rattle.model.specs.Tally.{Tally, Account, twoAt, quantity, writes, modbusTallied}
 use Rattle.model.proofs.Bridge.{Values, single, several, isWrite, writes-below, writes-above, writes-not, lookup, lookup-collect, lookup-mode, lookup-clear, quiet, at-counter, at-deduction, at-mode, at-settings}
-use Rattle.model.proofs.Invariant.{Counting, countingOf, Inv}
+use Rattle.model.specs.Cycles.{Counting, countingOf}
+use Rattle.model.proofs.Invariant.{Inv}
 use Rattle.model.proofs.Judged.{order, passes-without}
 use Rattle.model.proofs.Accepted.{Good}
 use Rattle.model.proofs.Deductions.{registers-once}

@@ -25,7 +25,7 @@ use Rattle.model.specs.Refusals.{Request, refuse, reading, Done, judged,
 use Rattle.model.specs.Counters.{mostItems, itemsOf, everyNumber, listed, listRead, zeroes, numberIn, parameters, readOne, valuesRead, readCounters, clearAll, deduct, deductCounters, setSampling, readSampling, setModesList, setModes, modeShown, setPort, resetModule, givePermission, readPort}
 use Rattle.model.specs.Temperature.{setThermostats, readingShown, readTemperature, groupShown, readThermostats}
 use Rattle.model.specs.Outputs.{setOutputs, setPulses, pulseOutputs, actOn, startPresets, setPresets, statesShown, readStates, pulseShown, presetShown, modeByte}
-use Rattle.model.specs.Registers.{portGroup, counterGroup, modeGroup, outputGroup, thermostatGroup, readingGroup, inGroup, packed, readBits, readWords, readThermostat, portWords, outputWord, thermostatWords, writeCoils}
+use Rattle.model.specs.Registers.{portGroup, counterGroup, modeGroup, outputGroup, thermostatGroup, readingGroup, inGroup, packed, readBits, readWords, readThermostat, portWords, counterWord, outputWord, thermostatWords, writeCoils}
 use Rattle.model.specs.Modbus.{startOf, secondOf, quantityWrong, noGroup, registersRead, registersWritten, coilWritten, registerWritten, coilsWritten, severalWritten, modbusAsked}
 use Rattle.model.specs.Spinel.{SpinelRequest, spinelAsked}
 use Rattle.model.specs.Notice.{setNotice, readNotice, noticed, noticeFrame, noticeWritten}
@@ -65,8 +65,8 @@ unfolding listRead listed
 list-short k most show h fit d =
     record { bound = λ e. omega (arith, flat-most k show h 16 (listed d) (all-or-list (eqb (length d) 1 && eqb (getD d 0 0) 0) everyNumber d (omega arith) (few-items d e))) }
 
--- 60H: two bytes each
-pub length-values : (ps cs : List ℕ) → length (valuesRead ps cs) ≡ 2 * length ps
+-- 60H: four bytes each
+pub length-values : (ps cs : List ℕ) → length (valuesRead ps cs) ≡ 4 * length ps
 unfolding valuesRead
 length-values [] cs = refl
 length-values (p ∷ ps) cs = simp (length-append, length-bytes, length-values ps (readOne cs p)) (omega arith)
@@ -182,7 +182,7 @@ module _ (b : List ℕ) (m : Module) where
   unfolding registersRead readThermostat thermostatWords flatMap bytes
   registers-short =
       cond-case S (inGroup portGroup (startOf b)) _ _ (λ _. words-short portGroup (portWords (m .modbus))) λ _.
-      cond-case S (inGroup counterGroup (startOf b)) _ _ (λ _. words-short counterGroup (m .inputs .counters)) λ _.
+      cond-case S (inGroup counterGroup (startOf b)) _ _ (λ _. words-short counterGroup (map counterWord (m .inputs .counters))) λ _.
       cond-case S (inGroup modeGroup (startOf b)) _ _ (λ _. words-short modeGroup (m .settings .modes)) λ _.
       cond-case S (inGroup outputGroup (startOf b)) _ _ (λ _. words-short outputGroup (map outputWord (m .outputs))) λ _.
       cond-case S (inGroup thermostatGroup (startOf b)) (readThermostat (m .settings .thermostats) (startOf b) (secondOf b)) (noGroup tt) (λ _. omega arith) λ _. omega arith

@@ -1,6 +1,6 @@
 -- Each instruction of the Spinel port keeps the invariant: its conditions, then the change of `Effects`, then the tally's reading by
 -- `Bridge`. Assumes nothing.
-use Prim.Native.Nat.{ℕ, suc, _<_}
+use Prim.Native.Nat.{ℕ, suc, _+_, _<_}
 use mathlib.Core.Path.{_≡_, refl}
 use mathlib.Core.List.{List, _∷_, _++_}
 use mathlib.Core.Bool.{Bool, false, true≢false}
@@ -12,6 +12,7 @@ use Rattle.lists.proofs.Choices.{cond-case, cond-eq}
 use Rattle.model.specs.declared.Module.{Module}
 use Rattle.model.specs.State.{withCounters, withModes, withSampling}
 use Rattle.model.specs.Refusals.{Request, notListed, onPart}
+use Rattle.model.specs.Samples.{counterBits, counterBytes}
 use Rattle.model.specs.Counters.{listRead, readCounters, parameters, valuesRead, deductCounters, clearAll, deduct, setModesList, setModes, setSampling, readSampling, setPort, readPort, resetModule, reset}
 use Rattle.model.specs.Outputs.{readStates}
 use Rattle.model.specs.Notice.{readNotice}
@@ -19,7 +20,8 @@ use Rattle.model.specs.Temperature.{readTemperature, readThermostats}
 use Rattle.model.specs.Spinel.{SpinelRequest, spinelAsked}
 use Rattle.model.specs.Tally.{Tally, Account, withMode, changed, spinelCollects, spinelClears, spinelResets, spinelMode, spinelSampling, spinelTallied}
 use Rattle.model.proofs.Bridge.{amounts-agree, modes-given, taken-agrees, kept}
-use Rattle.model.proofs.Invariant.{Counting, countingOf, Inv}
+use Rattle.model.specs.Cycles.{Counting, countingOf}
+use Rattle.model.proofs.Invariant.{Inv}
 use Rattle.model.proofs.Judged.{order}
 use Rattle.model.proofs.Accepted.{Good}
 use Rattle.model.proofs.Effects as effects
@@ -47,7 +49,7 @@ module _ (i : ℕ) (small : i < 16) (m : Module) (t : Tally) (v : Inv i (countin
   unfolding spinelSampling spinelResets spinelClears spinelMode spinelCollects changed
   idle c r h60 h61 h62 h6A hE0 hE3 = rw (h60, h61, h62, h6A, hE0, hE3, kept u) v
 
-  read-good : (s : List ℕ → List ℕ) → ((bs : List ℕ) → drop 8 (framed (0x10 ∷ bs)) ≡ bs ++ s bs)
+  read-good : (s : List ℕ → List ℕ) → ((bs : List ℕ) → drop 8 (framed (counterBits ∷ bs)) ≡ bs ++ s bs)
       → Good i (by 0x60) (onPart (withCounters m) (readCounters d (m .inputs .counters)))
   unfolding order readCounters spinelSampling spinelResets spinelClears spinelMode spinelCollects changed
   read-good s e = record {
@@ -59,7 +61,7 @@ module _ (i : ℕ) (small : i < 16) (m : Module) (t : Tally) (v : Inv i (countin
   deduct-good =
       cond-case (λ q. Good i (by 0x61) (onPart (withCounters m) q)) (eqb (length d) 1) _ _
       (λ e. record { keeps = λ p. rw (e, not-false (eqb (getD d 0 0) 0) (p .at 11 refl)) (effects.clears-all i small x (t .sampling) u v) })
-      (λ e. record { keeps = λ p. rw (e, amounts-agree i d) (effects.deducts i small x (t .sampling) u v (entries 3 d) (p .at 13 refl) (not-false _ (p .at 11 refl))) })
+      (λ e. record { keeps = λ p. rw (e, amounts-agree i d) (effects.deducts i small x (t .sampling) u v (entries (1 + counterBytes) d) (p .at 13 refl) (not-false _ (p .at 11 refl))) })
 
   modes-good : Good i (by 0x6A) (onPart (withModes m) (setModesList d (m .settings .modes)))
   unfolding order setModesList setModes spinelSampling spinelResets spinelClears spinelMode spinelCollects changed
@@ -96,7 +98,7 @@ module _ (i : ℕ) (small : i < 16) (m : Module) (t : Tally) (v : Inv i (countin
 
   -- every instruction; `tail` says where the data of a reply to 60H stand
   pub spinel-good : (q : SpinelRequest) (c : ℕ) (s : List ℕ → List ℕ) → q .content ≡ d → q .instruction ≡ c
-      → (c ≡ 0x60 → (bs : List ℕ) → drop 8 (framed (0x10 ∷ bs)) ≡ bs ++ s bs)
+      → (c ≡ 0x60 → (bs : List ℕ) → drop 8 (framed (counterBits ∷ bs)) ≡ bs ++ s bs)
       → Good i (by c) (spinelAsked q m)
   unfolding spinelAsked readNotice readThermostats readStates listRead readTemperature readSampling readPort
   spinel-good q c s ed ec tail =

@@ -19,17 +19,17 @@ pub record UnreachedTable : Type 0 where
       (withInputs (withSampling (withModes freshModule (replicate 16 3)) 0) (record { lines = line false 0 ∷ replicate 15 freshLine; counters = replicate 16 0 })) (
       (sampleOf 1 ⇒ silently 0) ∷
       (asked 0x31 [] ⇒ answers (0x00 ∷ 0x01 ∷ [])) ∷
-      (asked 0x60 (0x01 ∷ []) ⇒ answers (0x10 ∷ 0x00 ∷ 0x01 ∷ [])) ∷
+      (asked 0x60 (0x01 ∷ []) ⇒ answers (0x20 ∷ 0x00 ∷ 0x00 ∷ 0x00 ∷ 0x01 ∷ [])) ∷
       (asked 0x63 [] ⇒ answers (0x00 ∷ [])) ∷
       (sampleOf 1 ⇒ silently 0) ∷
-      (asked 0x60 (0x01 ∷ []) ⇒ answers (0x10 ∷ 0x00 ∷ 0x01 ∷ [])) ∷
+      (asked 0x60 (0x01 ∷ []) ⇒ answers (0x20 ∷ 0x00 ∷ 0x00 ∷ 0x00 ∷ 0x01 ∷ [])) ∷
       [])
   -- a run of 255 and a differing sample: it flips; an equal one ends the run
   pub runOf255 : Plays
       (withInputs (withSampling (withModes freshModule (replicate 16 3)) 255) (record { lines = line false 255 ∷ replicate 15 freshLine; counters = replicate 16 0 })) (
       (sampleOf 1 ⇒ silently 0) ∷
       (asked 0x31 [] ⇒ answers (0x00 ∷ 0x01 ∷ [])) ∷
-      (asked 0x60 (0x01 ∷ []) ⇒ answers (0x10 ∷ 0x00 ∷ 0x01 ∷ [])) ∷
+      (asked 0x60 (0x01 ∷ []) ⇒ answers (0x20 ∷ 0x00 ∷ 0x00 ∷ 0x00 ∷ 0x01 ∷ [])) ∷
       [])
   -- a run beyond the number and an equal sample: none
   pub runEnded : Plays
@@ -43,7 +43,7 @@ pub record UnreachedTable : Type 0 where
       (withInputs (withSampling (withModes freshModule (replicate 16 4)) 1) (record { lines = replicate 16 freshLine; counters = replicate 16 7 })) (
       (sampleOf 1 ⇒ silently 0) ∷
       (sampleOf 0 ⇒ silently 0) ∷
-      (asked 0x60 (0x01 ∷ []) ⇒ answers (0x10 ∷ 0x00 ∷ 0x07 ∷ [])) ∷
+      (asked 0x60 (0x01 ∷ []) ⇒ answers (0x20 ∷ 0x00 ∷ 0x00 ∷ 0x00 ∷ 0x07 ∷ [])) ∷
       (asked 0x6B (0x01 ∷ []) ⇒ answers (0x04 ∷ [])) ∷
       [])
   -- a float that is no number shows as 0
@@ -125,7 +125,7 @@ pub record UnreachedTable : Type 0 where
       (withInputs (withSampling (withModes freshModule ([])) 1) (record { lines = replicate 16 freshLine; counters = replicate 16 0 })) (
       (sampleOf 1 ⇒ silently 0) ∷
       (sampleOf 0 ⇒ silently 0) ∷
-      (asked 0x60 (0x01 ∷ []) ⇒ answers (0x10 ∷ 0x00 ∷ 0x00 ∷ [])) ∷
+      (asked 0x60 (0x01 ∷ []) ⇒ answers (0x20 ∷ 0x00 ∷ 0x00 ∷ 0x00 ∷ 0x00 ∷ [])) ∷
       (asked 0x6B (0x01 ∷ []) ⇒ answers (0x00 ∷ [])) ∷
       (asked 0x6A (0x01 ∷ 0x03 ∷ []) ⇒ answers []) ∷
       (asked 0x6B (0x01 ∷ []) ⇒ answers (0x00 ∷ [])) ∷
@@ -134,10 +134,10 @@ pub record UnreachedTable : Type 0 where
   pub countersLacking : Plays
       (withInputs (withSampling (withModes freshModule (replicate 16 3)) 1) (record { lines = replicate 16 freshLine; counters = [] })) (
       (sampleOf 1 ⇒ silently 0) ∷
-      (asked 0x60 (0x01 ∷ []) ⇒ answers (0x10 ∷ 0x00 ∷ 0x00 ∷ [])) ∷
-      (asked 0x61 (0x01 ∷ 0x00 ∷ 0x01 ∷ []) ⇒ refuses 11 0x03) ∷
-      (asked 0x61 (0x01 ∷ 0x00 ∷ 0x00 ∷ []) ⇒ answers []) ∷
-      (asked 0x60 (0x10 ∷ []) ⇒ answers (0x10 ∷ 0x00 ∷ 0x00 ∷ [])) ∷
+      (asked 0x60 (0x01 ∷ []) ⇒ answers (0x20 ∷ 0x00 ∷ 0x00 ∷ 0x00 ∷ 0x00 ∷ [])) ∷
+      (asked 0x61 (0x01 ∷ 0x00 ∷ 0x00 ∷ 0x00 ∷ 0x01 ∷ []) ⇒ refuses 11 0x03) ∷
+      (asked 0x61 (0x01 ∷ 0x00 ∷ 0x00 ∷ 0x00 ∷ 0x00 ∷ []) ⇒ answers []) ∷
+      (asked 0x60 (0x10 ∷ []) ⇒ answers (0x20 ∷ 0x00 ∷ 0x00 ∷ 0x00 ∷ 0x00 ∷ [])) ∷
       [])
   -- any format but 0 is on, and shows as it is stored
   pub formatOther : Plays (withNotice freshModule (notice 0x01 0xFFFF 0x05)) (

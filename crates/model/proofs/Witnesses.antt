@@ -16,8 +16,9 @@ pub record Witnesses : Type 0 where
       (sampleOf 3 ⇒ silently 0) ∷
       (sampleOf 0 ⇒ silently 0) ∷
       (sampleOf 3 ⇒ silently 0) ∷
-      (asked 0x61 (0x01 ∷ 0x00 ∷ 0x02 ∷ 0x02 ∷ 0x00 ∷ 0x01 ∷ 0x03 ∷ 0x00 ∷ 0x01 ∷ []) ⇒ refuses 11 0x03) ∷
-      (asked 0x60 (0x01 ∷ 0x02 ∷ []) ⇒ answers (0x10 ∷ 0x00 ∷ 0x03 ∷ 0x00 ∷ 0x03 ∷ [])) ∷
+      (asked 0x61 (0x01 ∷ 0x00 ∷ 0x00 ∷ 0x00 ∷ 0x02 ∷ 0x02 ∷ 0x00 ∷ 0x00 ∷ 0x00 ∷ 0x01 ∷ 0x03 ∷ 0x00 ∷ 0x00 ∷
+      0x00 ∷ 0x01 ∷ []) ⇒ refuses 11 0x03) ∷
+      (asked 0x60 (0x01 ∷ 0x02 ∷ []) ⇒ answers (0x20 ∷ 0x00 ∷ 0x00 ∷ 0x00 ∷ 0x03 ∷ 0x00 ∷ 0x00 ∷ 0x00 ∷ 0x03 ∷ [])) ∷
       [])
   -- slip: counting every change of a sample. Six changes, none of them 20 samples long: no edge
   pub countsStableChanges : Plays freshModule (
@@ -29,7 +30,7 @@ pub record Witnesses : Type 0 where
       (sampleOf 1 ⇒ silently 0) ∷
       (sampleOf 0 ⇒ silently 0) ∷
       (asked 0x31 [] ⇒ answers (0x00 ∷ 0x00 ∷ [])) ∷
-      (asked 0x60 (0x01 ∷ []) ⇒ answers (0x10 ∷ 0x00 ∷ 0x00 ∷ [])) ∷
+      (asked 0x60 (0x01 ∷ []) ⇒ answers (0x20 ∷ 0x00 ∷ 0x00 ∷ 0x00 ∷ 0x00 ∷ [])) ∷
       [])
   -- slip: a 60H to all that clears. It is refused by 6, and the counter is still 3
   pub broadcastClearsNothing : Plays freshModule (
@@ -39,7 +40,7 @@ pub record Witnesses : Type 0 where
       (sampleOf 0 ⇒ silently 0) ∷
       (sampleOf 3 ⇒ silently 0) ∷
       (askedAt 0xFF 0x60 (0x80 ∷ []) ⇒ silently 6) ∷
-      (asked 0x60 (0x01 ∷ []) ⇒ answers (0x10 ∷ 0x00 ∷ 0x03 ∷ [])) ∷
+      (asked 0x60 (0x01 ∷ []) ⇒ answers (0x20 ∷ 0x00 ∷ 0x00 ∷ 0x00 ∷ 0x03 ∷ [])) ∷
       [])
   -- slip: a wrong checksum that ends a permission. E4H, a wrong SUM (4), and E0H is permitted
   pub badSumKeepsPermission : Plays freshModule (
@@ -62,10 +63,10 @@ pub record Witnesses : Type 0 where
       (sampleOf 3 ⇒ silently 0) ∷
       (sampleOf 0 ⇒ silently 0) ∷
       (sampleOf 3 ⇒ silently 0) ∷
-      (asked 0x60 (0x81 ∷ []) ⇒ answers (0x10 ∷ 0x00 ∷ 0x03 ∷ [])) ∷
-      (asked 0x60 (0x01 ∷ []) ⇒ answers (0x10 ∷ 0x00 ∷ 0x00 ∷ [])) ∷
+      (asked 0x60 (0x81 ∷ []) ⇒ answers (0x20 ∷ 0x00 ∷ 0x00 ∷ 0x00 ∷ 0x03 ∷ [])) ∷
+      (asked 0x60 (0x01 ∷ []) ⇒ answers (0x20 ∷ 0x00 ∷ 0x00 ∷ 0x00 ∷ 0x00 ∷ [])) ∷
       (sampleOf 0 ⇒ silently 0) ∷
-      (asked 0x60 (0x01 ∷ []) ⇒ answers (0x10 ∷ 0x00 ∷ 0x01 ∷ [])) ∷
+      (asked 0x60 (0x01 ∷ []) ⇒ answers (0x20 ∷ 0x00 ∷ 0x00 ∷ 0x00 ∷ 0x01 ∷ [])) ∷
       [])
   -- cheat: an invented value, a fixed ACK. Counters 3 and 1 in the order asked; ACK 03 and 02 where refused
   pub ownValues : Plays freshModule (
@@ -74,19 +75,19 @@ pub record Witnesses : Type 0 where
       (sampleOf 3 ⇒ silently 0) ∷
       (sampleOf 0 ⇒ silently 0) ∷
       (sampleOf 1 ⇒ silently 0) ∷
-      (asked 0x60 (0x02 ∷ 0x01 ∷ []) ⇒ answers (0x10 ∷ 0x00 ∷ 0x01 ∷ 0x00 ∷ 0x03 ∷ [])) ∷
-      (asked 0x61 (0x02 ∷ 0x00 ∷ 0x02 ∷ []) ⇒ refuses 11 0x03) ∷
+      (asked 0x60 (0x02 ∷ 0x01 ∷ []) ⇒ answers (0x20 ∷ 0x00 ∷ 0x00 ∷ 0x00 ∷ 0x01 ∷ 0x00 ∷ 0x00 ∷ 0x00 ∷ 0x03 ∷ [])) ∷
+      (asked 0x61 (0x02 ∷ 0x00 ∷ 0x00 ∷ 0x00 ∷ 0x02 ∷ []) ⇒ refuses 11 0x03) ∷
       (asked 0x70 [] ⇒ refuses 7 0x02) ∷
       [])
-  -- cheat: only the first triple is honoured. Counters 3, 3; deduct 1 and 3; 2, 0
-  pub everyTriple : Plays freshModule (
+  -- cheat: only the first deduction is honoured. Counters 3, 3; deduct 1 and 3; 2, 0
+  pub everyItem : Plays freshModule (
       (asked 0x6A (0x01 ∷ 0x03 ∷ 0x02 ∷ 0x03 ∷ []) ⇒ answers []) ∷
       (asked 0x62 (0x01 ∷ []) ⇒ answers []) ∷
       (sampleOf 3 ⇒ silently 0) ∷
       (sampleOf 0 ⇒ silently 0) ∷
       (sampleOf 3 ⇒ silently 0) ∷
-      (asked 0x61 (0x01 ∷ 0x00 ∷ 0x01 ∷ 0x02 ∷ 0x00 ∷ 0x03 ∷ []) ⇒ answers []) ∷
-      (asked 0x60 (0x01 ∷ 0x02 ∷ []) ⇒ answers (0x10 ∷ 0x00 ∷ 0x02 ∷ 0x00 ∷ 0x00 ∷ [])) ∷
+      (asked 0x61 (0x01 ∷ 0x00 ∷ 0x00 ∷ 0x00 ∷ 0x01 ∷ 0x02 ∷ 0x00 ∷ 0x00 ∷ 0x00 ∷ 0x03 ∷ []) ⇒ answers []) ∷
+      (asked 0x60 (0x01 ∷ 0x02 ∷ []) ⇒ answers (0x20 ∷ 0x00 ∷ 0x00 ∷ 0x00 ∷ 0x02 ∷ 0x00 ∷ 0x00 ∷ 0x00 ∷ 0x00 ∷ [])) ∷
       [])
   -- cheat: 11 whatever is asked. A deduction that fits, an output that nothing holds
   pub notAlways11 : Plays freshModule (
@@ -95,7 +96,7 @@ pub record Witnesses : Type 0 where
       (sampleOf 3 ⇒ silently 0) ∷
       (sampleOf 0 ⇒ silently 0) ∷
       (sampleOf 3 ⇒ silently 0) ∷
-      (asked 0x61 (0x01 ∷ 0x00 ∷ 0x03 ∷ []) ⇒ answers []) ∷
+      (asked 0x61 (0x01 ∷ 0x00 ∷ 0x00 ∷ 0x00 ∷ 0x03 ∷ []) ⇒ answers []) ∷
       (asked 0x20 (0x81 ∷ []) ⇒ answers []) ∷
       (asked 0x30 [] ⇒ answers (0x00 ∷ 0x01 ∷ [])) ∷
       [])
@@ -133,7 +134,7 @@ witnesses = record {
   badCrcKeepsPermission = refl;
   countsAndCollects = refl;
   ownValues = refl;
-  everyTriple = refl;
+  everyItem = refl;
   notAlways11 = refl;
   looksBeforeHolding = refl;
   seesSamples = refl;

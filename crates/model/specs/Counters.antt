@@ -62,7 +62,7 @@ parameters d =
 unfoldable pub readOne : List ℕ → ℕ → List ℕ
 readOne cs p = cond (zeroes p) (set cs (numberIn p - 1) 0) cs
 
--- what follows the reply's 10H: each parameter's counter in two bytes, as the parameters before it left the copy
+-- what follows the reply's 20H: the counter of each parameter whole, in four bytes, as the parameters before it left the copy
 unfoldable pub valuesRead : List ℕ → List ℕ → List ℕ
 valuesRead [] cs = []
 valuesRead (p ∷ ps) cs = bytes counterBytes (getD cs (numberIn p - 1) 0) ++ valuesRead ps (readOne cs p)
@@ -98,7 +98,7 @@ clearedCounters = replicate places 0
 unfoldable pub clearAll : ℕ → Request (List ℕ)
 clearAll b = refuse 11 (not (eqb b 0)) (accepting clearedCounters [])
 
--- one byte clears, and must be 00; else three bytes for each deduction, the input and the amount, no number twice
+-- one byte clears, and must be 00; else five bytes for each deduction, the input and an amount as wide as a counter, no number twice
 unfoldable pub deductCounters : List ℕ → List ℕ → Request (List ℕ)
 deductCounters d cs =
     cond (eqb (length d) 1) (clearAll (getD d 0 0))

@@ -15,7 +15,7 @@ use Rattle.model.specs.Refusals.{Request, accepting, refuse, notListed, 
 use Rattle.model.specs.Wire.{Wire}
 use Rattle.model.specs.Outputs.{outputStates}
 use Rattle.model.specs.Temperature.{readingWords}
-use Rattle.model.specs.Registers.{permissionGroup, portGroup, counterGroup, deductionGroup, modeGroup, outputGroup, thermostatGroup, readingGroup, inGroup, readWords, readBits, portWords, outputWord, readThermostat, writePermission, writePort, writeCounters, writeDeductions, writeModes, writePulse, writeThermostat, writeCoils}
+use Rattle.model.specs.Registers.{permissionGroup, portGroup, counterGroup, deductionGroup, modeGroup, outputGroup, thermostatGroup, readingGroup, inGroup, readWords, readBits, portWords, counterWord, outputWord, readThermostat, writePermission, writePort, writeCounters, writeDeductions, writeModes, writePulse, writeThermostat, writeCoils}
 
 -- Bodies --------------------------------------------------------------------------------
 
@@ -53,7 +53,7 @@ noGroup p = refuse 9 true (accepting p [])
 unfoldable pub registersRead : ℕ → ℕ → Module → Request (Unit {0})
 registersRead r n m =
     cond (inGroup portGroup r) (readWords portGroup (portWords (m .modbus)) r n)
-    (cond (inGroup counterGroup r) (readWords counterGroup (m .inputs .counters) r n)
+    (cond (inGroup counterGroup r) (readWords counterGroup (map counterWord (m .inputs .counters)) r n)
     (cond (inGroup modeGroup r) (readWords modeGroup (m .settings .modes) r n)
     (cond (inGroup outputGroup r) (readWords outputGroup (map outputWord (m .outputs)) r n)
     (cond (inGroup thermostatGroup r) (readThermostat (m .settings .thermostats) r n)

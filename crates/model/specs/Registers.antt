@@ -93,6 +93,10 @@ readBits bs r n =
 abbrev pub portWords : Port → List ℕ
 portWords p = p .address ∷ p .speed ∷ []
 
+-- 100 to 115: of a counter the low sixteen bits, for which a register has room (E4)
+unfoldable pub counterWord : ℕ → ℕ
+counterWord c = c % 65536
+
 -- 500 to 515: the high byte is FF for on, else 00; the low byte is what is left of the pulse
 unfoldable pub outputWord : Output → ℕ
 outputWord o = cond (o .on) 0xFF00 0 + remaining (o .left)
@@ -142,7 +146,7 @@ writePort permitted r vs m =
     (refuse 11 (not (all portSettable (numbered r vs)))
     (accepting (reset (withModbus m (foldl setPortField (m .modbus) (numbered r vs)))) [])))
 
--- 100 to 115: a 0 clears the counter; nothing else can be put there
+-- 100 to 115: a 0 clears the whole counter, the bits that no register shows too; nothing else can be put there
 unfoldable pub isZero : Entry → Bool
 isZero e = eqb (e .value) 0
 
@@ -154,7 +158,7 @@ writeCounters r vs cs =
     let es = numbered (numberAt counterGroup r) vs in
     refuse 9 (outside counterGroup r (length vs)) (refuse 11 (not (all isZero es)) (accepting (foldl clearOne cs es) []))
 
--- 200 to 215: amounts to deduct, as by 61H and at most as many; a read finds no group there
+-- 200 to 215: amounts of sixteen bits to deduct, as by 61H from the whole counter and at most as many; a read finds no group there
 unfoldable pub writeDeductions : ℕ → List ℕ → List ℕ → Request (List ℕ)
 writeDeductions r vs cs =
     refuse 9 (outside deductionGroup r (length vs) || ltb mostItems (length vs))

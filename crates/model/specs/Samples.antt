@@ -1,5 +1,5 @@
 -- 01, Samples and edges.
-use Prim.Native.Nat.{ℕ, _+_, _%_}
+use Prim.Native.Nat.{ℕ, _+_, _*_, _%_, _^_}
 use mathlib.Core.Bool.{Bool, cond, not, _&&_, Bool·beq}
 use mathlib.Core.List.{List, map}
 use lib.Dec.{eqb, leb}
@@ -15,15 +15,15 @@ use Rattle.model.specs.State.{line, freshLine}
 abbrev pub places : ℕ
 places = 16
 
--- a counter's width in bits and in bytes, and the value it goes to 0 at
-abbrev pub counterBits : ℕ
-counterBits = 16
-
+-- a counter's width in bytes (E4), from which all else about it follows: its bits, and the value it goes to 0 at, which is one above its limit
 abbrev pub counterBytes : ℕ
-counterBytes = 2
+counterBytes = 4
+
+abbrev pub counterBits : ℕ
+counterBits = 8 * counterBytes
 
 abbrev pub counterModulus : ℕ
-counterModulus = 65536
+counterModulus = 256 ^ counterBytes
 
 -- debounce of one input, by the sampling number and the sampled bit: an equal sample ends the run, a differing one lengthens it; at the
 -- sampling number the state flips and no run is left. In states that no run of calls reaches: with the number 0, or after a run of 255,

@@ -71,18 +71,24 @@ sampledAccount number b a =
 abbrev pub twoAt : List ℕ → ℕ → ℕ
 twoAt f k = getD f k 0 * 256 + getD f (k + 1) 0
 
+-- four bytes (E4)
+abbrev pub fourAt : List ℕ → ℕ → ℕ
+fourAt f k = twoAt f k * 65536 + twoAt f (k + 2)
+
 abbrev pub codeOf : List ℕ → ℕ
 codeOf f = getD f 6 0
 
 abbrev pub payload : List ℕ → List ℕ
 payload f = take (length f - 9) (drop 7 f)
 
--- 61H, three bytes for each deduction, the input and a word: what they take from input k
+-- 61H, five bytes for each deduction, the input and an amount of four (E4): what they take from input k
 unfoldable pub amounts : ℕ → List ℕ → ℕ
 amounts k [] = 0
 amounts k (n ∷ []) = 0
-amounts k (n ∷ h ∷ []) = 0
-amounts k (n ∷ h ∷ l ∷ d) = cond (eqb n k) (h * 256 + l) 0 + amounts k d
+amounts k (n ∷ a ∷ []) = 0
+amounts k (n ∷ a ∷ b ∷ []) = 0
+amounts k (n ∷ a ∷ b ∷ c ∷ []) = 0
+amounts k (n ∷ a ∷ b ∷ c ∷ e ∷ d) = cond (eqb n k) (fourAt (a ∷ b ∷ c ∷ e ∷ []) 0) 0 + amounts k d
 
 -- 6AH, two bytes for each input, which one and its mode: input k's mode after them, m before
 unfoldable pub modeGiven : ℕ → List ℕ → ℕ → ℕ
@@ -90,11 +96,12 @@ modeGiven k [] m = m
 modeGiven k (n ∷ []) m = m
 modeGiven k (n ∷ v ∷ d) m = modeGiven k d (cond (eqb n k) v m)
 
--- 60H: the word for the parameter in place j; the reply's byte 6 is its ACK, byte 7 is 10H, and the words begin at byte 8
+-- 60H: the value for the parameter in place j; the reply's byte 6 is its ACK, byte 7 is 20H, and the values begin at byte 8, four bytes
+-- each (E4)
 abbrev pub valueAt : List ℕ → ℕ → ℕ
-valueAt r j = twoAt r (8 + 2 * j)
+valueAt r j = fourAt r (8 + 4 * j)
 
--- what the parameter p in place j collects from input k: nothing without bit 7; with the number k its word, with 0 (all) the k-th word
+-- what the parameter p in place j collects from input k: nothing without bit 7; with the number k its value, with 0 (all) the k-th value
 unfoldable pub takenBy : ℕ → ℕ → ℕ → List ℕ → ℕ
 takenBy k p j r =
     cond (leb 128 p)
@@ -205,7 +212,7 @@ clears k (modbus f) = modbusResets f || modbusClears k f
 abbrev pub uncollected : Tally → ℕ → ℕ
 uncollected t k = t .input k .edges - t .input k .collected
 
--- since input k was last cleared, has no call left more than 65,535 uncollected? b says so of the time before the list
+-- since input k was last cleared, has no call left more than 4,294,967,295 (E4) uncollected? b says so of the time before the list
 unfoldable pub stayed : ℕ → Bool → Tally → List Event → Bool
 stayed k b t [] = b
-stayed k b t (e ∷ es) = stayed k ((b || eqb (e .refusal) 0 && clears k (e .act)) && leb (uncollected (feed t e) k) 65535) (feed t e) es
+stayed k b t (e ∷ es) = stayed k ((b || eqb (e .refusal) 0 && clears k (e .act)) && leb (uncollected (feed t e) k) 4294967295) (feed t e) es

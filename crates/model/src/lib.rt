@@ -9,7 +9,7 @@ pub struct Line {
 // What samples change of the inputs: each line, and what it has counted.
 pub struct Inputs {
     pub lines: [Line; 16],
-    pub counters: [u16; 16],
+    pub counters: [u32; 16],
 }
 
 // One output: its state, and the samples left of its pulse (0: no pulse).

@@ -75,7 +75,7 @@ pub fn settle(refusal: u8, m: Module, after: Module) -> Served
 // The module with one part put in place ---------------------------------------------------
 
 // The module with these counters.
-pub fn with_counters(m: Module, counters: [u16; 16]) -> Module
+pub fn with_counters(m: Module, counters: [u32; 16]) -> Module
     ensures { λ r. ⌜ r ≡ withCounters m counters ⌝ }
 {
     let mut part = m.inputs;

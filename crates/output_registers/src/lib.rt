@@ -23,7 +23,7 @@ pub fn write_pulse(m: Module, a: u16, d: &[u8]) -> Served
     let reading = m.reading;
     let v = encoding::word_from(d, 0);
     let time = HalfSeconds(encoding::low_byte(v));
-    let es = entries::single(groups::number(groups::OUTPUTS, a), v / 0xFF00);
+    let es = entries::single(groups::number(groups::OUTPUTS, a), (v / 0xFF00) as u32);
     let count = d.len() / 2;
     let wrong = groups::is_outside(groups::OUTPUTS, a, count) | (count != 1);
     let no_state = (v / 256 != 0xFF) & (v / 256 != 0x00);
@@ -48,7 +48,7 @@ pub fn write_coil(m: Module, a: u16, v: u16) -> Served
     let hs = kept.thermostats;
     let os = m.outputs;
     let reading = m.reading;
-    let es = entries::single(groups::number(groups::BITS, a), v / 0xFF00);
+    let es = entries::single(groups::number(groups::BITS, a), (v / 0xFF00) as u32);
     let wrong = groups::is_outside(groups::BITS, a, 1);
     let no_state = (v != 0xFF00) & (v != 0x0000);
     let value = encoding::refused_if(

@@ -14,6 +14,7 @@ use Rattle.model.specs.Calls.{Answered, sampleCall, step, run}
 use Rattle.texts.specs.declared.Text.{Text}
 use Rattle.texts.specs.Texts.{answerText, textOf}
 use Rattle.player.specs.Answers.{frameText, noticeText, printed}
+use Rattle.player.specs.Scripts.{inTurn}
 
 module _ {o : Out} {a : Answer} {old new : List ℕ} (p : Answered o a old new) where
   length-reply : a .len ≡ length (o .reply)
@@ -45,3 +46,11 @@ samples-go bits zero m h e = absurd (let z : ⊥ = omega arith in z)
 samples-go bits (suc n) m {after} h e =
     let less : suc n - 1 ≡ n = omega arith in
     rw (less, e)
+
+-- one turn of two samples
+pub turns-go : (a b left : ℕ) (m : Module) {half after : Module} → 0 < left → half ≡ sampleCall 256 a m .after → after ≡ sampleCall 256 b half .after → run after (inTurn a b (left - 1)) ≡ run m (inTurn a b left)
+unfolding run step inTurn
+turns-go a b zero m h e f = absurd (let z : ⊥ = omega arith in z)
+turns-go a b (suc n) m h e f =
+    let less : suc n - 1 ≡ n = omega arith in
+    rw (less, f, e)

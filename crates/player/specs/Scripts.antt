@@ -1,5 +1,5 @@
 -- A script as calls.
-use Prim.Native.Nat.{ℕ}
+use Prim.Native.Nat.{ℕ, zero, suc}
 use mathlib.Core.Bool.{Bool, true, false, cond}
 use mathlib.Core.List.{List, [], _∷_, _++_}
 use lib.Dec.{eqb}
@@ -26,14 +26,20 @@ unfoldable pub lines : List ℕ → List ℕ → List (List ℕ)
 lines w [] = w ∷ []
 lines w (b ∷ l) = cond (eqb b 10) (w ∷ lines [] l) (lines (w ++ b ∷ []) l)
 
--- the calls of a line, with a reply buffer of 256 bytes: as many samples as it says, one temperature, one frame, or none
+-- two samples in turn, n times
+unfoldable pub inTurn : ℕ → ℕ → ℕ → List Call
+inTurn a b zero = []
+inTurn a b (suc n) = call 256 (sample a) ∷ call 256 (sample b) ∷ inTurn a b n
+
+-- the calls of a line, with a reply buffer of 256 bytes: as many samples as it says, or as many turns of two, one temperature, one frame, or none
 unfoldable pub lineCalls : Parsed → List Call
 lineCalls x =
     cond (eqb (x .kind) 1) (replicate (x .times) (call 256 (sample (x .bits))))
+    (cond (eqb (x .kind) 7) (inTurn (x .bits) (x .second) (x .times))
     (cond (eqb (x .kind) 2) (call 256 (temperature true (x .tenths)) ∷ [])
     (cond (eqb (x .kind) 3) (call 256 (temperature false (pos 0)) ∷ [])
     (cond (eqb (x .kind) 4) (call 256 (spinel (take (x .len) (x .frame))) ∷ [])
-    (cond (eqb (x .kind) 5) (call 256 (modbus (take (x .len) (x .frame))) ∷ []) []))))
+    (cond (eqb (x .kind) 5) (call 256 (modbus (take (x .len) (x .frame))) ∷ []) [])))))
 
 -- the calls of some lines
 unfoldable pub linesCalls : List (List ℕ) → List Call

@@ -7,7 +7,7 @@ ghost use Rattle.model.specs.Calls.{sampleCall, temperatureCall, Answered, run}
 ghost use Rattle.script.specs.Words.{leading};
 ghost use Rattle.script.specs.Lines.{parsedLine};
 ghost use Rattle.player.specs.Answers.{frameText, noticeText, printed};
-ghost use Rattle.player.specs.Scripts.{inLine, frameCall, lineCalls, scriptCalls};
+ghost use Rattle.player.specs.Scripts.{inLine, frameCall, inTurn, lineCalls, scriptCalls};
 use libc::STDIN_FILENO;
 use libc::STDOUT_FILENO;
 use model::Answer;
@@ -76,17 +76,39 @@ fn print_text(text: Text) {
     io::write_all(STDOUT_FILENO, &bytes[..n]);
 }
 
-// The same bits some times, each notice printed.
+// One sample, its notice printed.
+fn play_sample(m: Module, bits: u16) -> Module
+    ensures { λ r. ⌜ r ≡ sampleCall 256 bits m .after ⌝ }
+{
+    let p = sample_text(m, bits);
+    let text = p.text;
+    print_text(text);
+    p.after
+}
+
+// The same bits some times.
 fn play_samples(m: Module, bits: u16, times: u16) -> Module
     ensures { λ r. ⌜ r ≡ run m (replicate times (call 256 (sample bits))) ⌝ }
 {
     let mut q = m;
     let mut left = times;
     while 0 < left {
-        let p = sample_text(q, bits);
-        let after = p.after;
-        let text = p.text;
-        print_text(text);
+        let after = play_sample(q, bits);
+        q = after;
+        left -= 1;
+    }
+    q
+}
+
+// Two samples in turn, some times.
+fn play_toggles(m: Module, bits: u16, second: u16, times: u16) -> Module
+    ensures { λ r. ⌜ r ≡ run m (inTurn bits second times) ⌝ }
+{
+    let mut q = m;
+    let mut left = times;
+    while 0 < left {
+        let half = play_sample(q, bits);
+        let after = play_sample(half, second);
         q = after;
         left -= 1;
     }
@@ -120,6 +142,7 @@ fn play_calls(m: Module, x: Parsed) -> Module
     let n = texts::at_most(x.len, 300);
     match kind {
         1 => play_samples(m, x.bits, x.times),
+        7 => play_toggles(m, x.bits, x.second, x.times),
         2 => play_temperature(m, true, x.tenths),
         3 => play_temperature(m, false, 0),
         4 => play_frame(m, false, &frame[..n]),
@@ -133,19 +156,19 @@ fn print_reason(reason: u8) {
     match reason {
         1 => io::write_all(
             STDOUT_FILENO,
-            b"unknown word: expected sample, temperature, spinel or modbus\n",
+            b"unknown word: expected sample, toggle, temperature, spinel or modbus\n",
         ),
         2 => io::write_all(
             STDOUT_FILENO,
-            b"bad hex: expected four hex digits after sample, two hex digits for each byte of a frame\n",
+            b"bad hex: expected four hex digits after sample, twice four after toggle, two hex digits for each byte of a frame\n",
         ),
         3 => io::write_all(
             STDOUT_FILENO,
-            b"bad number: expected 1 to 65535 samples, a temperature of -32768 to 32767 tenths, or fault\n",
+            b"bad number: expected 1 to 65535 samples or toggles, a temperature of -32768 to 32767 tenths, or fault\n",
         ),
         4 => io::write_all(
             STDOUT_FILENO,
-            b"too many words: expected sample HHHH, sample HHHH N, temperature T or temperature fault\n",
+            b"too many words: expected sample HHHH, sample HHHH N, toggle HHHH HHHH N, temperature T or temperature fault\n",
         ),
         5 => io::write_all(
             STDOUT_FILENO,
@@ -153,7 +176,7 @@ fn print_reason(reason: u8) {
         ),
         _ => io::write_all(
             STDOUT_FILENO,
-            b"missing word: expected sample HHHH, sample HHHH N, temperature T or temperature fault\n",
+            b"missing word: expected sample HHHH, sample HHHH N, toggle HHHH HHHH N, temperature T or temperature fault\n",
         ),
     }
     ;

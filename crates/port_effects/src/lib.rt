@@ -105,7 +105,7 @@ pub fn read_port(d: &[u8], p: Port) -> Told
 fn set_field(p: Port, e: Entry) -> Port
     ensures { λ r. ⌜ r ≡ setPortByte p e ⌝ }
 {
-    let v = encoding::low_byte(e.value);
+    let v = entries::byte(e);
     let mut next = p;
     if e.number == 1 {
         next.address = v;

@@ -1,5 +1,5 @@
 -- Words of a group in a reply, and a group whose words are the first of two lists. Assumes nothing.
-use Prim.Native.Nat.{ℕ, _+_, _-_, _*_, _≤_}
+use Prim.Native.Nat.{ℕ, _+_, _-_, _*_, _%_, _≤_}
 use native.Mathlib.Omega.{arith}
 use native.Mathlib.Nat.{le-of-eq}
 use mathlib.Core.Path.{_≡_, refl, ap, _∙_}
@@ -19,7 +19,7 @@ use Rattle.model.specs.State.{freshOutput}
 use Rattle.model.specs.Outputs.{remaining}
 use Rattle.model.specs.Refusals.{judged, refuse, telling}
 use Rattle.model.specs.Temperature.{readingWords}
-use Rattle.model.specs.Registers.{outside, outputWord, readWords}
+use Rattle.model.specs.Registers.{outside, counterWord, outputWord, readWords}
 use Rattle.model.proofs.Short.{flat-most}
 use Rattle.encoding.specs.declared.Told.{Told}
 use Rattle.encoding.specs.Answers.{toldOf}
@@ -36,6 +36,11 @@ words-data b ws h =
 pub word-of : (os : List Output) (i : ℕ) → getD (map outputWord os) i 0 ≡ outputWord (getD os i freshOutput)
 unfolding outputWord remaining
 word-of os i = List·getD-map outputWord os i freshOutput
+
+-- and a counter's that of its counter
+pub counter-word-of : (cs : List ℕ) (i : ℕ) → getD (map counterWord cs) i 0 ≡ getD cs i 0 % 65536
+unfolding counterWord
+counter-word-of cs i = List·getD-map (λ c. c % 65536) cs i 0
 
 -- a group whose words are the first of two lists shows none of the second
 pub first-told : (g : Group) (xs ys : List ℕ) (a n : ℕ) → g .count ≤ length xs → toldOf (readWords g (xs ++ ys) a n) ≡ toldOf (readWords g xs a n)

@@ -7,7 +7,7 @@ ghost use Rattle.lists.specs.Data.{dataOf};
 ghost use Rattle.lists.specs.Numbers.{bytes};
 ghost use Rattle.model.specs.Temperature.{readingWords};
 ghost use Rattle.model.specs.Registers.{counterGroup, modeGroup, outputGroup, portGroup, readingGroup};
-ghost use Rattle.model.specs.Registers.{readWords, portWords, outputWord, readThermostat};
+ghost use Rattle.model.specs.Registers.{readWords, portWords, counterWord, outputWord, readThermostat};
 ghost use Rattle.encoding.specs.Answers.{toldOf};
 ghost use Rattle.register_reads.specs.Answers.{readingList, thermostatList};
 use encoding::Told;
@@ -47,11 +47,26 @@ fn tell_words(g: Group, words: [u16; 16], a: u16, n: u16) -> Told
     encoding::tell(show_words(words, groups::place(g, a), n as usize))
 }
 
-// 100 to 115: counters.
-pub fn read_counters(cs: [u16; 16], a: u16, n: u16) -> Told
-    ensures { λ r. ⌜ r ≡ toldOf (readWords counterGroup cs a n) ⌝ }
+// The low word of each counter.
+fn counter_words(cs: [u32; 16]) -> [u16; 16]
+    ensures { λ r. ⌜ r ≡ map counterWord cs ⌝ }
 {
-    tell_words(groups::COUNTERS, cs, a, n)
+    let mut words = [0u16; 16];
+    let mut i = 0usize;
+    while i < 16 {
+        let c = cs[i];
+        let v = encoding::low_word(c);
+        words[i] = v;
+        i += 1;
+    }
+    words
+}
+
+// 100 to 115: counters, as much of each as a register has room for.
+pub fn read_counters(cs: [u32; 16], a: u16, n: u16) -> Told
+    ensures { λ r. ⌜ r ≡ toldOf (readWords counterGroup (map counterWord cs) a n) ⌝ }
+{
+    tell_words(groups::COUNTERS, counter_words(cs), a, n)
 }
 
 // Sixteen bytes as words.

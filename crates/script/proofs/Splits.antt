@@ -1,10 +1,10 @@
 -- A line's parts, one by one. Assumes nothing.
-use Prim.Native.Nat.{ℕ, suc}
+use Prim.Native.Nat.{ℕ, suc, _+_}
 use native.Mathlib.Omega.{arith}
 use mathlib.Core.Path.{_≡_, refl, sym, ap, _∙_}
 use mathlib.Core.Bool.{Bool, true, false, cond}
 use mathlib.Core.List.{List, [], _∷_, _++_, append-nil, append-assoc}
-use lib.ListN.{length, take, drop}
+use lib.ListN.{length, take, drop, drop-of-length-le}
 use lib.Seq.{drop-drop}
 use borrow.Author.Tests.{eqb-true, eqb-false}
 use Rattle.script.specs.Words.{over, blank, solid, leading, split, parts, skipped, used, firstWord, restOf}
@@ -66,3 +66,17 @@ over-parts l h = parts-none l (eqb-true _ _ h)
 
 pub more-parts : (l : List ℕ) → over l ≡ false → parts l ≡ firstWord l ∷ parts (restOf l)
 more-parts l h = parts-some l (eqb-false _ _ h)
+
+-- where a word is left after the first, there was a first
+over-rest : (l : List ℕ) → over l ≡ true → over (restOf l) ≡ true
+unfolding restOf used leading
+over-rest l h =
+    let all : length l ≡ leading blank l = eqb-true _ _ h in
+    rw (drop-of-length-le l {i = leading blank l + leading solid (skipped l)} (omega arith))
+
+pub rest-more : (l : List ℕ) → over (restOf l) ≡ false → over l ≡ false
+rest-more l h = go (over l) refl
+  where
+    go : (t : Bool) → over l ≡ t → over l ≡ false
+    go true e = e ∙ sym (over-rest l e) ∙ h
+    go false e = e

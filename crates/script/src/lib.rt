@@ -1,13 +1,15 @@
 // One line of a script as a call.
 ghost use mathlib.Core.Path.{_≡_};
 ghost use Rattle.script.specs.Words.{blank, solid, other, plain, leading, uncr, body, parts, over, used, firstWord, restOf, same};
-ghost use Rattle.script.specs.Lines.{ofKind, wrong, sampled, sample, goodTenths, tenthsOf, temperature, faultWord, framed, keyword, called, parsedLine};
+ghost use Rattle.script.specs.Lines.{ofKind, wrong, sampled, sample, toggle, goodTenths, tenthsOf, temperature, faultWord, framed, keyword, called, parsedLine};
 
-// What a line asks for, by `kind`: 0 nothing, 1 sample, 2 temperature, 3 fault, 4 Spinel frame, 5 Modbus frame, 6 wrong.
+// What a line asks for, by `kind`: 0 nothing, 1 sample, 2 temperature, 3 fault, 4 Spinel frame, 5 Modbus frame, 6 wrong, 7 toggle;
+// `second` is a toggle's second sample.
 pub struct Parsed {
     pub kind: u8,
     pub reason: u8,
     pub bits: u16,
+    pub second: u16,
     pub times: u16,
     pub tenths: i16,
     pub frame: [u8; 300],
@@ -153,6 +155,7 @@ fn of_kind(kind: u8) -> Parsed
         kind,
         reason: 0,
         bits: 0,
+        second: 0,
         times: 0,
         tenths: 0,
         frame: [0u8; 300],
@@ -168,6 +171,7 @@ fn wrong_of(reason: u8) -> Parsed
         kind: 6,
         reason,
         bits: 0,
+        second: 0,
         times: 0,
         tenths: 0,
         frame: [0u8; 300],
@@ -175,22 +179,27 @@ fn wrong_of(reason: u8) -> Parsed
     }
 }
 
-// A sample of 16 bits, some times.
-fn sampled_of(b: u32, n: u32) -> Parsed
-    ensures { λ r. ⌜ r ≡ sampled b n ⌝ }
+// A sample, or a toggle's two, of 16 bits each, some times.
+fn sampled_of(kind: u8, a: u32, b: u32, n: u32) -> Parsed
+    ensures { λ r. ⌜ r ≡ sampled kind a b n ⌝ }
 {
+    if 65536 <= a {
+        return wrong_of(2);
+    }
     if 65536 <= b {
         return wrong_of(2);
     }
     if (n == 0) | (65535 < n) {
         return wrong_of(3);
     }
-    let bits = b as u16;
+    let bits = a as u16;
+    let second = b as u16;
     let times = n as u16;
     Parsed {
-        kind: 1,
+        kind,
         reason: 0,
         bits,
+        second,
         times,
         tenths: 0,
         frame: [0u8; 300],
@@ -208,14 +217,33 @@ fn sample_of(s: &[u8]) -> Parsed
     let b = digits::hex_of(4, first_word(s));
     let t = rest_of(s);
     if is_over(t) {
-        return sampled_of(b, 1);
+        return sampled_of(1, b, 0, 1);
     }
     let n = digits::decimal_of(first_word(t));
     let u = rest_of(t);
     if is_over(u) {
-        return sampled_of(b, n);
+        return sampled_of(1, b, 0, n);
     }
     wrong_of(4)
+}
+
+// The words after `toggle`. A third says that there are a first and a second.
+fn toggle_of(s: &[u8]) -> Parsed
+    ensures { λ r. ⌜ r ≡ toggle (parts (now (s .entry))) ⌝ }
+{
+    let t = rest_of(s);
+    let u = rest_of(t);
+    if is_over(u) {
+        return wrong_of(6);
+    }
+    let v = rest_of(u);
+    if !is_over(v) {
+        return wrong_of(4);
+    }
+    let a = digits::hex_of(4, first_word(s));
+    let b = digits::hex_of(4, first_word(t));
+    let n = digits::decimal_of(first_word(u));
+    sampled_of(7, a, b, n)
 }
 
 // A good temperature.
@@ -226,6 +254,7 @@ fn good_of(tenths: i16) -> Parsed
         kind: 2,
         reason: 0,
         bits: 0,
+        second: 0,
         times: 0,
         tenths,
         frame: [0u8; 300],
@@ -299,11 +328,15 @@ fn keyword_of(w: &[u8]) -> u8
     ensures { λ r. ⌜ r ≡ keyword (now (w .entry)) ⌝ }
 {
     let sample = [115u8, 97, 109, 112, 108, 101];
+    let toggle = [116u8, 111, 103, 103, 108, 101];
     let temperature = [116u8, 101, 109, 112, 101, 114, 97, 116, 117, 114, 101];
     let spinel = [115u8, 112, 105, 110, 101, 108];
     let modbus = [109u8, 111, 100, 98, 117, 115];
     if is_same(w, &sample) {
         return 1;
+    }
+    if is_same(w, &toggle) {
+        return 7;
     }
     if is_same(w, &temperature) {
         return 2;
@@ -323,6 +356,7 @@ fn called_of(kind: u8, s: &[u8]) -> Parsed
 {
     match kind {
         1 => sample_of(s),
+        7 => toggle_of(s),
         2 => temperature_of(s),
         4 => frame_of(4, s),
         5 => frame_of(5, s),

@@ -21,7 +21,7 @@ unfolding clearOne
 loop-again c =
     let t = c .before .before .before in
     let at = t .before in
-    rw (c .with-word .ensures, c .before .place .ensures, c .before .before .entry-at .ensures) (each-goes clearOne (at .loop .copy) _ (at .before .count .ensures) (at .loop .i) (entry 0 0) (t .loop-test .taken) ∙ at .loop .inv)
+    rw (c .with-counter .ensures, c .before .place .ensures, c .before .before .entry-at .ensures) (each-goes clearOne (at .loop .copy) _ (at .before .count .ensures) (at .loop .i) (entry 0 0) (t .loop-test .taken) ∙ at .loop .inv)
 
 returns : tie.Need-returns Inv-loop μ-loop
 returns c =

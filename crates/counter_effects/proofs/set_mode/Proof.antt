@@ -6,7 +6,7 @@ use Rattle.counter_effects.proofs.set_mode.Tie as tie
 
 returns : tie.Need-returns
 unfolding setModeByte setMode
-returns c = rw (c .with-byte .ensures, c .before .low-byte .ensures, c .before .before .place .ensures)
+returns c = rw (c .with-byte .ensures, c .before .byte .ensures, c .before .before .place .ensures)
 
 pub set-mode-spec : {M : Type 1} → statement M
 set-mode-spec = tie.close (tie.spec (λ c κs. tt) (λ c κs. tt) (λ c κs. tt) returns)

@@ -27,9 +27,9 @@ returns c =
     let a = t .before .before .before .before .args in
     let d = now (a .d) in
     let cs = a .m .inputs .counters in
-    let wrong = not (itemsOf 3 d) in
-    rw (c .settle .ensures, w .with-counters .ensures, w .before .deduct .ensures, s .refused-if2 .ensures, s .before .refused-if .ensures, n .named-twice .ensures, j .deduct-refusal .ensures, i .items-of .ensures, t .triples .ensures, ← items-length 3 d)
-    (decoded-law (a .m) (λ (es : List Entry). onPart (withCounters (a .m)) (refuse 8 wrong (refuse 13 (namedTwice es) (deduct es cs)))) 7 (λ es. cond (namedTwice es) 13 (refusalOf (deduct es cs))) wrong (λ l. refl) _ (entries 3 d) (λ h. list-whole 3 d (not-false _ h)) _ (λ _. refl) refl)
+    let wrong = not (itemsOf 5 d) in
+    rw (c .settle .ensures, w .with-counters .ensures, w .before .deduct .ensures, s .refused-if2 .ensures, s .before .refused-if .ensures, n .named-twice .ensures, j .deduct-refusal .ensures, i .items-of .ensures, t .fives .ensures, ← items-length 5 d)
+    (decoded-law (a .m) (λ (es : List Entry). onPart (withCounters (a .m)) (refuse 8 wrong (refuse 13 (namedTwice es) (deduct es cs)))) 7 (λ es. cond (namedTwice es) 13 (refusalOf (deduct es cs))) wrong (λ l. refl) _ (entries 5 d) (λ h. list-whole 5 d (not-false _ h)) _ (λ _. refl) refl)
 
 pub deduct-listed-spec : {M : Type 1} → statement M
 deduct-listed-spec = tie.close (tie.spec (λ c κs. tt) (λ c κs. tt) (λ c κs. tt) (λ c κs. tt) (λ c κs. tt) (λ c κs. tt) (λ c κs. tt) (λ c κs. tt) (λ c κs. tt) returns)

@@ -5,7 +5,7 @@ use Rattle.counter_reads.proofs.read_one.Tie as tie
 
 returns : tie.Need-returns
 unfolding readStep
-returns c = rw (c .push16 .ensures, c .before .word-at .ensures, c .before .before .index-of .ensures, c .before .before .before .collect-one .ensures)
+returns c = rw (c .push32 .ensures, c .before .counter-at .ensures, c .before .before .index-of .ensures, c .before .before .before .collect-one .ensures)
 
 pub read-one-spec : {M : Type 1} → statement M
 read-one-spec =

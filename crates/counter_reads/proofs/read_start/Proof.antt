@@ -6,7 +6,7 @@ use Rattle.counter_reads.proofs.read_start.Statement.{statement}
 use Rattle.counter_reads.proofs.read_start.Tie as tie
 
 returns : tie.Need-returns
-returns c = rw (c .push .ensures, c .before .empty .ensures, push-law [] 16 (omega arith))
+returns c = rw (c .push .ensures, c .before .empty .ensures, push-law [] 32 (omega arith))
 
 pub read-start-spec : {M : Type 1} → statement M
 read-start-spec = tie.close (tie.spec (λ c κs. tt) (λ c κs. tt) returns)

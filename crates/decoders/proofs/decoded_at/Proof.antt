@@ -11,10 +11,10 @@ pair-at-requires c κs =
     let s = c .before .before .before in
     rw (c .enum-told .given .1, length-entries 2 (now (s .args .d))) at (s .pre)
 
-triple-at-requires : tie.Need-triple-at-requires
-triple-at-requires c κs =
+five-at-requires : tie.Need-five-at-requires
+five-at-requires c κs =
     let s = c .before .before .before in
-    rw (c .enum-told2 .given .1, length-entries 3 (now (s .args .d))) at (s .pre)
+    rw (c .enum-told2 .given .1, length-entries 5 (now (s .args .d))) at (s .pre)
 
 register-at-requires : tie.Need-register-at-requires
 register-at-requires c κs =
@@ -30,7 +30,7 @@ returns : tie.Need-returns
 returns c = rw (c .before .enum-told .given .1) (c .pair-at .ensures)
 
 returns-2 : tie.Need-returns-2
-returns-2 c = rw (c .before .enum-told2 .given .1) (c .triple-at .ensures)
+returns-2 c = rw (c .before .enum-told2 .given .1) (c .five-at .ensures)
 
 returns-3 : tie.Need-returns-3
 returns-3 c = rw (c .before .before .l .given .1) (c .register-at .ensures)
@@ -48,7 +48,7 @@ decoded-at-spec =
     (λ c. search needs)
     pair-at-requires
     (λ c. search needs)
-    triple-at-requires
+    five-at-requires
     (λ c. search needs)
     register-at-requires
     (λ c. search needs)

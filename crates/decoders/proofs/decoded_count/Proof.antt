@@ -13,7 +13,7 @@ returns : tie.Need-returns
 returns c = rw (c .enum-told .given .1) (sym (length-entries 2 (now (c .before .before .args .d))))
 
 returns-2 : tie.Need-returns-2
-returns-2 c = rw (c .enum-told2 .given .1) (sym (length-entries 3 (now (c .before .before .args .d))))
+returns-2 c = rw (c .enum-told2 .given .1) (sym (length-entries 5 (now (c .before .before .args .d))))
 
 returns-3 : tie.Need-returns-3
 returns-3 c = rw (c .enum-told3 .given .1) (sym (length-registers _ (now (c .before .before .args .d))))

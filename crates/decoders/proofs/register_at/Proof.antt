@@ -12,4 +12,4 @@ returns c =
     rw (c .word-from .ensures, c .before .number .ensures) (register-place (now (s .args .d)) (s .args .j) (numberAt (s .args .g) (s .args .a)) (s .pre))
 
 pub register-at-spec : {M : Type 1} → statement M
-register-at-spec = tie.close (tie.spec (λ c κs. tt) (λ c. omega arith) (λ c. omega arith) (λ c κs. tt) returns)
+register-at-spec = tie.close (tie.spec (λ c κs. tt) (λ c. omega arith) (λ c. omega arith) (λ c κs. tt) (λ c. omega arith) returns)

@@ -4,4 +4,4 @@ use Rattle.encoding.proofs.float_words.Statement.{statement}
 use Rattle.encoding.proofs.float_words.Tie as tie
 
 pub float-words-spec : {M : Type 1} → statement M
-float-words-spec = tie.close (tie.spec (λ c κs. tt) (λ c. search needs) (λ c. search needs) (λ c. rw (c .float-bits .ensures)))
+float-words-spec = tie.close (tie.spec (λ c κs. tt) (λ c κs. tt) (λ c κs. tt) (λ c. rw (c .low-word .ensures, c .before .high-word .ensures, c .before .before .float-bits .ensures)))

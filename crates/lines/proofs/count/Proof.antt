@@ -5,7 +5,7 @@ use Rattle.lines.proofs.count.Tie as tie
 
 returns : tie.Need-returns
 unfolding counted
-returns c = rw (c .wrapping-add-u16 .ensures, c .before .if1 .taken)
+returns c = rw (c .wrapping-add-u32 .ensures, c .before .if1 .taken)
 
 returns-2 : tie.Need-returns-2
 unfolding counted

@@ -1,4 +1,5 @@
 -- `output_registers::write_coil` meets its contract: 11 for the value or the number. Assumes nothing.
+use native.Mathlib.Omega.{arith}
 use mathlib.Core.Path.{refl, ap}
 use mathlib.Core.Bool.{cond, not, _||_}
 use mathlib.Core.List.{[], _∷_}
@@ -35,4 +36,4 @@ returns c =
     (settled-law (a .m) (onPart (withOutputs (a .m)) (refuse 11 wrong (writeCoils r hs (a .a) (v / 0xFF00 ∷ []) os))) _ _ _ (ap (cond (outside bitGroup (a .a) 1) 9) (also-11 (actOn setOutput r hs es os) wrong _ refl refl)) (λ _. refl) (λ _. refl))
 
 pub write-coil-spec : {M : Type 1} → statement M
-write-coil-spec = tie.close (tie.spec (λ c κs. tt) (λ c κs. tt) (λ c κs. tt) (λ c κs. tt) (λ c κs. tt) (λ c κs. tt) (λ c κs. tt) (λ c κs. tt) (λ c κs. tt) returns)
+write-coil-spec = tie.close (tie.spec (λ c κs. tt) (λ c. omega arith) (λ c κs. tt) (λ c κs. tt) (λ c κs. tt) (λ c κs. tt) (λ c κs. tt) (λ c κs. tt) (λ c κs. tt) (λ c κs. tt) returns)

@@ -61,4 +61,4 @@ returns c =
     (λ h. one-value d (eqb-true n 1 (not-false (eqb n 1) (or-right (outside outputGroup (a .a) n) (not (eqb n 1)) h)))) _ (λ _. refl) refl)
 
 pub write-pulse-spec : {M : Type 1} → statement M
-write-pulse-spec = tie.close (tie.spec (λ c κs. tt) (λ c κs. tt) (λ c κs. tt) (λ c κs. tt) (λ c κs. tt) (λ c κs. tt) (λ c κs. tt) (λ c κs. tt) (λ c κs. tt) (λ c κs. tt) (λ c κs. tt) returns)
+write-pulse-spec = tie.close (tie.spec (λ c κs. tt) (λ c κs. tt) (λ c κs. tt) (λ c. omega arith) (λ c κs. tt) (λ c κs. tt) (λ c κs. tt) (λ c κs. tt) (λ c κs. tt) (λ c κs. tt) (λ c κs. tt) (λ c κs. tt) returns)

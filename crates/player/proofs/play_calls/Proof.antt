@@ -41,40 +41,44 @@ returns c = rw (c .before .match .keys1) (c .play-samples .ensures)
 
 returns-2 : tie.Need-returns-2
 unfolding lineCalls run step
-returns-2 c =
-    let fit : SFits w16 (c .before .before .before .before .before .args .x .tenths) = search needs in
-    rw (c .before .before .match .keys2) (rw (toZ-ofZ fit) at (c .play-temperature .ensures))
+returns-2 c = rw (c .before .match .keys2) (c .play-toggles .ensures)
 
 returns-3 : tie.Need-returns-3
 unfolding lineCalls run step
-returns-3 c = rw (c .before .match .keys3) (c .play-temperature2 .ensures)
+returns-3 c =
+    let fit : SFits w16 (c .before .before .before .before .before .args .x .tenths) = search needs in
+    rw (c .before .before .match .keys3) (rw (toZ-ofZ fit) at (c .play-temperature .ensures))
+
+returns-4 : tie.Need-returns-4
+unfolding lineCalls run step
+returns-4 c = rw (c .before .match .keys4) (c .play-temperature2 .ensures)
 
 -- the frame that is played is the line's
 framed : (c : tie.After-at-most) → take (c .at-most .result) (c .before .before .args .x .frame) ≡ take (c .before .before .args .x .len) (c .before .before .args .x .frame)
 framed c = rw (c .at-most .ensures) (take-limited (c .before .before .args .x .len) 300 (c .before .before .args .x .frame) (full (c .before .before)))
 
-returns-4 : tie.Need-returns-4
-unfolding frameCall lineCalls run step
-returns-4 c =
-    let at = c .before .before in
-    rw (at .match .keys4) (rw (framed (at .before)) at (c .play-frame .ensures))
-
 returns-5 : tie.Need-returns-5
 unfolding frameCall lineCalls run step
 returns-5 c =
     let at = c .before .before in
-    rw (at .match .keys5) (rw (framed (at .before)) at (c .play-frame2 .ensures))
+    rw (at .match .keys5) (rw (framed (at .before)) at (c .play-frame .ensures))
 
 returns-6 : tie.Need-returns-6
-unfolding lineCalls run step
+unfolding frameCall lineCalls run step
 returns-6 c =
+    let at = c .before .before in
+    rw (at .match .keys6) (rw (framed (at .before)) at (c .play-frame2 .ensures))
+
+returns-7 : tie.Need-returns-7
+unfolding lineCalls run step
+returns-7 c =
     let h = c .match .rest in
-    rw (ne-eqb _ _ (h .0 .0 .0 .0 .1), ne-eqb _ _ (h .0 .0 .0 .1), ne-eqb _ _ (h .0 .0 .1), ne-eqb _ _ (h .0 .1), ne-eqb _ _ (h .1))
+    rw (ne-eqb _ _ (h .0 .0 .0 .0 .0 .1), ne-eqb _ _ (h .0 .0 .0 .0 .1), ne-eqb _ _ (h .0 .0 .0 .1), ne-eqb _ _ (h .0 .0 .1), ne-eqb _ _ (h .0 .1), ne-eqb _ _ (h .1))
 
 pub play-calls-spec : {M : Type 1} → statement M
 play-calls-spec =
     tie.close
-    (tie.spec (λ c κs. tt) (λ c κs. tt) (λ c κs. tt)
+    (tie.spec (λ c κs. tt) (λ c κs. tt) (λ c κs. tt) (λ c κs. tt)
     (λ c κs. tt) array-share-prefix-frame slice-aggregate-play-frame
     (λ c κs. tt) array-share-prefix-frame-2 slice-aggregate-play-frame-2
-    (λ c κs. tt) returns returns-2 returns-3 returns-4 returns-5 returns-6)
+    (λ c κs. tt) returns returns-2 returns-3 returns-4 returns-5 returns-6 returns-7)

@@ -1,10 +1,9 @@
 -- `player::play_samples` meets its contract. The loop's invariant: the samples left, on the state now, come to all of them. Assumes nothing.
 use native.Mathlib.Omega.{arith}
-use mathlib.Core.Path.{_≡_, refl, ap, _∙_}
+use mathlib.Core.Path.{_≡_, refl, _∙_}
 use lib.ListN.{replicate}
 use Rattle.model.specs.Call.{call, sample}
 use Rattle.model.specs.Calls.{run}
-use Rattle.player.specs.declared.Printed.{Printed}
 use Rattle.player.proofs.Answers.{samples-go}
 use Rattle.player.proofs.play_samples.Statement.{statement}
 use Rattle.player.proofs.play_samples.Tie as tie
@@ -17,9 +16,8 @@ abbrev μ-loop : tie.MeasureT-loop
 
 loop-again : tie.Need-loop-again Inv-loop μ-loop
 loop-again c =
-    let done = c .before .before .before in
-    let at = done .before .before in
-    samples-go (at .before .args .bits) (at .loop .left) (at .loop .q) (omega arith) (ap (λ (p : Printed). p .after) (done .sample-text .ensures)) ∙ at .loop .inv
+    let at = c .before .before in
+    samples-go (at .before .args .bits) (at .loop .left) (at .loop .q) (omega arith) (c .play-sample .ensures) ∙ at .loop .inv
 
 returns : tie.Need-returns Inv-loop μ-loop
 unfolding run
@@ -30,5 +28,5 @@ returns c =
 pub play-samples-spec : {M : Type 1} → statement M
 play-samples-spec =
     tie.close
-    (tie.spec Inv-loop μ-loop (λ c. refl) (λ c κs. tt) (λ c κs. tt) (λ c. omega arith)
+    (tie.spec Inv-loop μ-loop (λ c. refl) (λ c κs. tt) (λ c. omega arith)
     (λ c. omega arith) loop-again returns)

@@ -1,13 +1,11 @@
 -- `register_reads::byte_words` meets its contract. The loop's invariant: the bytes before `i`, then zeros. Assumes nothing.
 use borrow.Author.Needs.{needs}
 use native.Mathlib.Omega.{arith}
-use native.Mathlib.Nat.{le-of-eq}
 use Prim.Native.Nat.{_-_, _≤_}
 use mathlib.Core.Path.{_≡_, refl, _∙_}
-use mathlib.Core.List.{_++_, append-nil}
+use mathlib.Core.List.{_++_}
 use lib.ListN.{length, take, drop, replicate}
-use lib.Seq.{take-all}
-use Rattle.lists.proofs.DataLaws.{over-turn}
+use Rattle.lists.proofs.DataLaws.{over-turn, over-sixteen}
 use Rattle.register_reads.proofs.byte_words.Statement.{statement}
 use Rattle.register_reads.proofs.byte_words.Tie as tie
 
@@ -29,9 +27,8 @@ loop-again c =
 
 returns : tie.Need-returns Inv-loop μ-loop
 returns c =
-    let bs = c .before .before .args .bs in
-    let e : c .before .loop .i ≡ 16 = omega arith in
-    c .before .loop .inv .1 ∙ rw e (append-nil (take 16 bs) ∙ take-all 16 bs (le-of-eq (long (c .before .before))))
+    let l = c .before in
+    over-sixteen (l .before .args .bs) (l .loop .words) (l .loop .i) (long (l .before)) (omega arith) (l .loop .inv .1)
 
 pub byte-words-spec : {M : Type 1} → statement M
 byte-words-spec =

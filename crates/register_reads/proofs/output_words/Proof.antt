@@ -1,13 +1,11 @@
 -- `register_reads::output_words` meets its contract. The loop's invariant: the words before `i`, then zeros. Assumes nothing.
 use borrow.Author.Needs.{needs}
 use native.Mathlib.Omega.{arith}
-use native.Mathlib.Nat.{le-of-eq}
 use Prim.Native.Nat.{_-_, _≤_}
 use mathlib.Core.Path.{_≡_, refl, _∙_}
-use mathlib.Core.List.{map, _++_, append-nil}
+use mathlib.Core.List.{map, _++_}
 use lib.ListN.{length, take, drop, replicate, length-map}
-use lib.Seq.{take-all}
-use Rattle.lists.proofs.DataLaws.{over-turn}
+use Rattle.lists.proofs.DataLaws.{over-turn, over-sixteen}
 use Rattle.model.specs.Registers.{outputWord}
 use Rattle.register_reads.proofs.Groups.{word-of}
 use Rattle.register_reads.proofs.output_words.Statement.{statement}
@@ -34,9 +32,8 @@ loop-again c =
 
 returns : tie.Need-returns Inv-loop μ-loop
 returns c =
-    let os = c .before .before .args .t1 in
-    let e : c .before .loop .i ≡ 16 = omega arith in
-    c .before .loop .inv .1 ∙ rw e (append-nil (take 16 (map outputWord os)) ∙ take-all 16 (map outputWord os) (le-of-eq (long (c .before .before))))
+    let l = c .before in
+    over-sixteen (map outputWord (l .before .args .t1)) (l .loop .words) (l .loop .i) (long (l .before)) (omega arith) (l .loop .inv .1)
 
 pub output-words-spec : {M : Type 1} → statement M
 output-words-spec =

@@ -33,13 +33,24 @@ returns-4 c =
 returns-5 : tie.Need-returns-5
 unfolding keyword
 returns-5 c =
-    let third = c .before .before .before in
+    let fourth = c .before .before .before in
+    let third = fourth .before .before .before in
     let second = third .before .before .before in
     let first = second .before .before .before in
-    rw (sym (first .before .is-same .ensures) ∙ first .if1 .left, sym (second .before .is-same2 .ensures) ∙ second .if2 .left, sym (third .before .is-same3 .ensures) ∙ third .if3 .left, sym (c .before .is-same4 .ensures) ∙ c .if4 .left)
+    rw (sym (first .before .is-same .ensures) ∙ first .if1 .left, sym (second .before .is-same2 .ensures) ∙ second .if2 .left, sym (third .before .is-same3 .ensures) ∙ third .if3 .left, sym (fourth .before .is-same4 .ensures) ∙ fourth .if4 .left, sym (c .before .is-same5 .ensures) ∙ c .if5 .taken)
+
+returns-6 : tie.Need-returns-6
+unfolding keyword
+returns-6 c =
+    let fourth = c .before .before .before in
+    let third = fourth .before .before .before in
+    let second = third .before .before .before in
+    let first = second .before .before .before in
+    rw (sym (first .before .is-same .ensures) ∙ first .if1 .left, sym (second .before .is-same2 .ensures) ∙ second .if2 .left, sym (third .before .is-same3 .ensures) ∙ third .if3 .left, sym (fourth .before .is-same4 .ensures) ∙ fourth .if4 .left, sym (c .before .is-same5 .ensures) ∙ c .if5 .left)
 
 pub keyword-of-spec : {M : Type 1} → statement M
 keyword-of-spec =
     tie.close
     (tie.spec (λ c. search needs) (λ c κs. tt) returns (λ c. search needs) (λ c κs. tt) returns-2
-    (λ c. search needs) (λ c κs. tt) returns-3 (λ c. search needs) (λ c κs. tt) returns-4 returns-5)
+    (λ c. search needs) (λ c κs. tt) returns-3 (λ c. search needs) (λ c κs. tt) returns-4
+    (λ c. search needs) (λ c κs. tt) returns-5 returns-6)

@@ -14,16 +14,21 @@ returns c = rw (c .wrong-of .ensures, le-ltb _ 65536 (c .before .if1 .taken))
 
 returns-2 : tie.Need-returns-2
 unfolding sampled
-returns-2 c = rw (c .wrong-of2 .ensures, lt-ltb _ 65536 (c .before .before .if1 .left), c .before .if2 .taken)
-
-cast-times : tie.Need-cast-times
-cast-times c = omega (arith, ltb-false 65535 (c .before .before .args .n) (or-right (eqb (c .before .before .args .n) 0) _ (c .if2 .left)))
+returns-2 c = rw (c .wrong-of2 .ensures, lt-ltb _ 65536 (c .before .before .if1 .left), le-ltb _ 65536 (c .before .if2 .taken))
 
 returns-3 : tie.Need-returns-3
 unfolding sampled
-returns-3 c = rw (lt-ltb _ 65536 (c .before .if1 .left), c .if2 .left)
+returns-3 c = rw (c .wrong-of3 .ensures, lt-ltb _ 65536 (c .before .before .before .if1 .left), lt-ltb _ 65536 (c .before .before .if2 .left), c .before .if3 .taken)
+
+cast-times : tie.Need-cast-times
+cast-times c = omega (arith, ltb-false 65535 (c .before .before .before .args .n) (or-right (eqb (c .before .before .before .args .n) 0) _ (c .if3 .left)))
+
+returns-4 : tie.Need-returns-4
+unfolding sampled
+returns-4 c = rw (lt-ltb _ 65536 (c .before .before .if1 .left), lt-ltb _ 65536 (c .before .if2 .left), c .if3 .left)
 
 pub sampled-of-spec : {M : Type 1} → statement M
 sampled-of-spec =
     tie.close
-    (tie.spec (λ c κs. tt) returns (λ c κs. tt) returns-2 (λ c. search needs) cast-times returns-3)
+    (tie.spec (λ c κs. tt) returns (λ c κs. tt) returns-2 (λ c κs. tt) returns-3 (λ c. search needs)
+    (λ c. search needs) cast-times returns-4)

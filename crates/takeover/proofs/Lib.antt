@@ -1,0 +1,2 @@
+pub mod Conservation
+pub mod Rows

@@ -1,0 +1,2 @@
+pub mod TakenOver
+pub mod Across
