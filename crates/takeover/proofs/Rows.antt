@@ -9,7 +9,7 @@ use lib.IntN.{pos, negsuc}
 use lib.ListN.{getD, replicate}
 use Rattle.model.specs.declared.Reading.{Reading}
 use Rattle.model.specs.declared.Reading.the-variants.{Valid, Fault}
-use Rattle.model.specs.State.{line, output, preset, thermostat, notice, port, freshLine, freshOutput, freshPreset, freshThermostat, freshModule}
+use Rattle.model.specs.State.{line, output, preset, thermostat, notice, freshLine, freshOutput, freshPreset, freshThermostat, freshModule}
 use Rattle.model.specs.Temperature.{degrees}
 use Rattle.model.specs.Call.{Call}
 use Rattle.model.specs.Calls.{run}
@@ -102,22 +102,6 @@ pub turned : (k n : ℕ) (b : ModuleBefore) → Sixteen (countingBefore b) → A
 turned k n b s = record { alike = alike-standing k (countingBefore b) 0 (65536 * n) s; turns = n; sum = omega arith }
 
 pub record Rows : Type 0 where
-  -- each field as it was
-  pub everyField : takenOver (full true true) ≡ record {
-    inputs = record { lines = line true 5 ∷ line false 29 ∷ line true 0 ∷ replicate 13 freshLine; counters = 65535 ∷ 2 ∷ 300 ∷ replicate 12 0 ++ 4660 ∷ [] };
-    outputs = output true 750 ∷ output false 1 ∷ output true 0 ∷ replicate 12 freshOutput ++ output true 255000 ∷ [];
-    settings = record {
-      modes = 3 ∷ 1 ∷ 2 ∷ replicate 12 0 ++ 3 ∷ [];
-      sampling = 30;
-      presets = preset 2 4 ∷ preset 3 255 ∷ replicate 13 freshPreset ++ preset 0 9 ∷ [];
-      thermostats = replicate 3 freshThermostat ++ thermostat 0xC1 (pos 300) (negsuc 4) 1 2 ∷ replicate 12 freshThermostat;
-      notice = notice 0x61 0x0002 0x05;
-    };
-    reading = fifteen;
-    last = thirty;
-    spinel = port 0x32 7 true;
-    modbus = port 0x05 8 true;
-  }
   -- a fresh state of before is a fresh module
   pub fresh : takenOver (record {
     inputs = record { lines = replicate 16 freshLine; counters = replicate 16 0 };
@@ -162,4 +146,4 @@ pub record Rows : Type 0 where
 
 pub rows : Rows
 unfolding computing
-rows = record { everyField = refl; fresh = refl; goesOn = refl; spinelPermitted = refl; modbusPermitted = refl }
+rows = record { fresh = refl; goesOn = refl; spinelPermitted = refl; modbusPermitted = refl }
