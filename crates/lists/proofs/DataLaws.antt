@@ -114,9 +114,19 @@ over-turn {A} d xs old i h k =
     ∙ set-at (take i xs) (getD old i d) (drop (suc i) old) (getD xs i d) i (length-take-le i xs (omega arith))
     ∙ rw (add-one, take-suc xs i d h, append-snoc)
 
--- sixteen numbers stored one by one over zeros, the last too
-pub over-sixteen : (xs now : List ℕ) (i : ℕ) → length xs ≡ 16 → i ≡ 16 → now ≡ take i xs ++ drop i (replicate 16 0) → now ≡ xs
-over-sixteen xs now i l e h = h ∙ rw e (append-nil (take 16 xs) ∙ take-all 16 xs (le-of-eq l))
+-- a loop that makes a list of sixteen: those of xs before i stand, and d behind them
+abbrev pub Made : {A : Type 0} → A → List A → List A → ℕ → Type 0
+Made d xs now i = (i ≤ 16) × (now ≡ take i xs ++ drop i (replicate 16 d))
+
+-- one turn of it, and its end
+module _ {A : Type 0} (d : A) (xs now : List A) (i : ℕ) (l : length xs ≡ 16) (m : Made d xs now i) where
+  pub made-turn : {v : A} → v ≡ getD xs i d → i < 16 → Made d xs (set now i v) (i + 1)
+  made-turn e h = (omega arith, rw (e, m .1) (over-turn d xs (replicate 16 d) i (rw l h) h))
+
+  pub made-all : 16 ≤ i → now ≡ xs
+  made-all h =
+      let e : i ≡ 16 = omega (arith, m .0) in
+      m .1 ∙ rw e (append-nil (take 16 xs) ∙ take-all 16 xs (le-of-eq l))
 
 -- bytes beyond what was written are as they were
 pub over-beyond : (bs old : List ℕ) (i : ℕ) → getD (over bs old) (length bs + i) 0 ≡ getD old (length bs + i) 0

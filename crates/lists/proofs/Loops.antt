@@ -2,12 +2,11 @@
 use Prim.Native.Nat.{ℕ, _+_, _<_, _≤_}
 use native.Mathlib.Numerals.{add-one}
 use mathlib.Core.Path.{_≡_, refl}
-use mathlib.Core.Bool.{Bool, true, false}
+use mathlib.Core.Bool.{Bool, true, false, cond}
 use mathlib.Core.List.{List, [], _∷_, foldl}
-use lib.Dec.{eqb}
 use lib.ListN.{length, getD, drop, drop-of-length-le}
 use lib.Seq.{drop-cons}
-use Rattle.lists.specs.Tests.{all, any, twice}
+use Rattle.lists.specs.Tests.{all}
 use Rattle.lists.proofs.Choices.{all-first, all-rest}
 
 -- what is left from place i on, by its first
@@ -40,36 +39,19 @@ module _ {E : Type 0} (ok : E → Bool) (l : List E) {n : ℕ} (size : n ≡ len
   unfolding all
   test-ends h = rw (left-none l size i h)
 
--- one looked for
-module _ {E : Type 0} (ok : E → Bool) (l : List E) {n : ℕ} (size : n ≡ length l) (i : ℕ) where
-  pub find-goes : (d : E) → i < n → ok (getD l i d) ≡ false → any ok (drop (i + 1) l) ≡ any ok (drop i l)
-  unfolding any
-  find-goes d h e = rw (left-some l size i d h, e)
-
-  pub find-stops : (d : E) → i < n → ok (getD l i d) ≡ true → true ≡ any ok (drop i l)
-  unfolding any
-  find-stops d h e = rw (left-some l size i d h, e)
-
-  pub find-ends : n ≤ i → false ≡ any ok (drop i l)
-  unfolding any
-  find-ends h = rw (left-none l size i h)
-
--- two with the same number looked for
-module _ {E : Type 0} (f : E → ℕ) (l : List E) {n : ℕ} (size : n ≡ length l) (i : ℕ) where
-  pub twice-goes : (d : E) → i < n → any (λ y. eqb (f (getD l i d)) (f y)) (drop (i + 1) l) ≡ false → twice f (drop (i + 1) l) ≡ twice f (drop i l)
-  unfolding twice
-  twice-goes d h e = rw (left-some l size i d h, e)
-
-  pub twice-stops : (d : E) → i < n → any (λ y. eqb (f (getD l i d)) (f y)) (drop (i + 1) l) ≡ true → true ≡ twice f (drop i l)
-  unfolding twice
-  twice-stops d h e = rw (left-some l size i d h, e)
-
-  pub twice-ends : n ≤ i → false ≡ twice f (drop i l)
-  unfolding twice
-  twice-ends h = rw (left-none l size i h)
-
 -- two steps that agree on what passes a test come to the same on a list that does
 pub same-steps : {E S : Type 0} (ok : E → Bool) (step step′ : S → E → S) → ((s : S) (e : E) → ok e ≡ true → step s e ≡ step′ s e)
     → (l : List E) (s : S) → all ok l ≡ true → foldl step s l ≡ foldl step′ s l
 same-steps ok step step′ same [] s h = refl
 same-steps ok step step′ same (e ∷ l) s h = rw (same s e (all-first ok e l h)) (same-steps ok step step′ same l (step′ s e) (all-rest ok e l h))
+
+-- one looked for: g is true from the first that t finds on, by it and those behind it
+module _ {E : Type 0} (g : List E → Bool) (t : E → List E → Bool) (some : (x : E) (l : List E) → g (x ∷ l) ≡ cond (t x l) true (g l)) (l : List E) {n : ℕ} (size : n ≡ length l) (i : ℕ) where
+  pub find-goes : (d : E) → i < n → t (getD l i d) (drop (i + 1) l) ≡ false → g (drop (i + 1) l) ≡ g (drop i l)
+  find-goes d h e = rw (left-some l size i d h, some, e)
+
+  pub find-stops : (d : E) → i < n → t (getD l i d) (drop (i + 1) l) ≡ true → true ≡ g (drop i l)
+  find-stops d h e = rw (left-some l size i d h, some, e)
+
+  pub find-ends : n ≤ i → g [] ≡ g (drop i l)
+  find-ends h = rw (left-none l size i h)

@@ -1,18 +1,18 @@
 -- `register_reads::counter_words` meets its contract. The loop's invariant: the words before `i`, then zeros. Assumes nothing.
 use borrow.Author.Needs.{needs}
 use native.Mathlib.Omega.{arith}
-use Prim.Native.Nat.{_-_, _≤_}
-use mathlib.Core.Path.{_≡_, refl, _∙_}
-use mathlib.Core.List.{map, _++_}
-use lib.ListN.{length, take, drop, replicate, length-map}
-use Rattle.lists.proofs.DataLaws.{over-turn, over-sixteen}
+use Prim.Native.Nat.{_-_}
+use mathlib.Core.Path.{_≡_, refl, sym, _∙_}
+use mathlib.Core.List.{map}
+use lib.ListN.{length, length-map}
+use Rattle.lists.proofs.DataLaws.{Made, made-turn, made-all}
 use Rattle.model.specs.Registers.{counterWord}
 use Rattle.register_reads.proofs.Groups.{counter-word-of}
 use Rattle.register_reads.proofs.counter_words.Statement.{statement}
 use Rattle.register_reads.proofs.counter_words.Tie as tie
 
 abbrev Inv-loop : tie.InvT-loop
-Inv-loop cs words₀ i₀ words i = (i ≤ 16) × (words ≡ take i (map counterWord cs) ++ drop i (replicate 16 0))
+Inv-loop cs words₀ i₀ words i = Made 0 (map counterWord cs) words i
 
 abbrev μ-loop : tie.MeasureT-loop
 μ-loop cs words₀ i₀ words i = 16 - i
@@ -27,13 +27,12 @@ loop-again : tie.Need-loop-again Inv-loop μ-loop
 loop-again c =
     let l = c .before .before in
     let cs = l .before .args .t1 in
-    let t = c .before .loop-test .taken in
-    (omega arith, rw (c .low-word .ensures, ← counter-word-of cs (l .loop .i), l .loop .inv .1) (over-turn 0 (map counterWord cs) (replicate 16 0) (l .loop .i) (rw (long (l .before)) t) t))
+    made-turn 0 (map counterWord cs) (l .loop .words) (l .loop .i) (long (l .before)) (l .loop .inv) (c .low-word .ensures ∙ sym (counter-word-of cs (l .loop .i))) (c .before .loop-test .taken)
 
 returns : tie.Need-returns Inv-loop μ-loop
 returns c =
     let l = c .before in
-    over-sixteen (map counterWord (l .before .args .t1)) (l .loop .words) (l .loop .i) (long (l .before)) (omega arith) (l .loop .inv .1)
+    made-all 0 (map counterWord (l .before .args .t1)) (l .loop .words) (l .loop .i) (long (l .before)) (l .loop .inv) (omega arith)
 
 pub counter-words-spec : {M : Type 1} → statement M
 counter-words-spec =
