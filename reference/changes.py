@@ -9,11 +9,11 @@ from dataclasses import dataclass
 from translate import BINDS, Apply, Field, Function, Let, Name, Nil, Number, Op, Record
 
 # names of one type, and fields of one type
-TWINS = ["leb ltb", "leZ ltZ", "true false", "withSpinel withModbus", "withCounters withModes", "spinelWire modbusWire",
-         "spinelTo modbusTo", "spinelBroadcast modbusBroadcast", "spinelAddressWrong modbusAddressWrong",
-         "spinelBroadcastWrong modbusBroadcastWrong", "sumWrong crcWrong", "signatureOf instructionOf", "ackOf exceptionOf"]
+TWINS = ["leb ltb", "le_z lt_z", "true false", "with_spinel with_modbus", "with_counters with_modes", "spinel_wire modbus_wire",
+         "spinel_to modbus_to", "spinel_broadcast modbus_broadcast", "spinel_address_wrong modbus_address_wrong",
+         "spinel_broadcast_wrong modbus_broadcast_wrong", "sum_wrong crc_wrong", "signature_of instruction_of", "ack_of exception_of"]
 ALIKE = ["tempx tempy", "reading last", "spinel modbus", "address speed", "number value", "first count", "edges collected", "format mask",
-         "shapeWrong checkWrong broadcastWrong", "least broadcast"]
+         "shape_wrong check_wrong broadcast_wrong", "least broadcast"]
 NAMES, FIELDS = ({name: [other for other in names.split() if other != name] for names in listed for name in names.split()}
                  for listed in (TWINS, ALIKE))
 SIGNS = {"&&": "||", "||": "&&", "+": "-", "-": "+", "/": "%", "%": "/"}
@@ -21,9 +21,9 @@ SIGNS = {"&&": "||", "||": "&&", "+": "-", "-": "+", "/": "%", "%": "/"}
 SIDES = {"&&": "left right", "||": "left right", "+": "left right", "++": "left right", "-": "left", "/": "left", "%": "left", "*": "left",
          "∷": "right"}
 # functions that may be left out: how many arguments they take, and which of them stands for the whole
-PUT = "Lines Modes Counters Sampling Inputs Outputs Settings Presets Thermostats Notice Spinel Modbus".split()
-LEFT_OUT = {"not": (1, 0), "set": (3, 0), "take": (2, 1), "drop": (2, 1), "foldl": (3, 1), "permit": (2, 1), "usedUp": (2, 1),
-            "reset": (1, 0), "runsEnded": (1, 0), "answering": (2, 1), "withReading": (4, 0), **{"with" + part: (2, 0) for part in PUT}}
+PUT = "lines modes counters sampling inputs outputs settings presets thermostats notice spinel modbus".split()
+LEFT_OUT = {"not": (1, 0), "set": (3, 0), "take": (2, 1), "drop": (2, 1), "foldl": (3, 1), "permit": (2, 1), "used_up": (2, 1),
+            "reset": (1, 0), "runs_ended": (1, 0), "answering": (2, 1), "with_reading": (4, 0), **{"with_" + part: (2, 0) for part in PUT}}
 REFUSALS = range(7, 14)  # what a request may be refused by
 
 
@@ -46,13 +46,14 @@ def shown(x, depth=3, tight=False):
     if isinstance(x, Name):
         return x.text
     text = ".." if depth == 0 else compound(x, depth - 1)
-    return "(%s)" % text if tight and depth and not isinstance(x, Record) else text
+    return "(%s)" % text if tight and depth and not isinstance(x, (Record, Field)) else text
 
 
 def compound(x, depth):
     """An expression that has parts."""
     if isinstance(x, Field):
-        return "%s .%s" % (shown(x.of, depth + isinstance(x.of, Field), not isinstance(x.of, Field)), x.name)
+        of = shown(x.of, depth + isinstance(x.of, Field), True)
+        return "%s.%s" % ("(..)" if of == ".." else of, x.name)
     if isinstance(x, Record):
         return "record { %s }" % "; ".join("%s = %s" % (name, shown(value, depth)) for name, value in x.fields)
     if isinstance(x, Let):
@@ -62,8 +63,8 @@ def compound(x, depth):
     if isinstance(x, Op):
         deeper = depth + (isinstance(x.right, Op) and x.right.sign == x.sign and BINDS[x.sign][1])
         return "%s %s %s" % (shown(x.left, deeper, looser(x.left, x, False)), x.sign, shown(x.right, deeper, looser(x.right, x, True)))
-    of_field = isinstance(x.head, Field)
-    return " ".join([shown(x.head, depth + of_field, not of_field)] + [shown(y, depth, True) for y in x.arguments])
+    head = shown(x.head, depth + isinstance(x.head, Field), True)
+    return " ".join([head] + [shown(y, depth, True) for y in x.arguments])
 
 
 def looser(part, whole, right):
@@ -105,7 +106,7 @@ def of_function(x, name, given):
         yield from (given[1], given[2], by("cond", given[0], given[2], given[1]))
     elif name == "eqb" and len(given) == 2:
         yield from (by("leb", *given), by("leb", *given[::-1]), by("not", x))
-    elif name in ("leb", "ltb", "leZ", "ltZ") and len(given) == 2:
+    elif name in ("leb", "ltb", "le_z", "lt_z") and len(given) == 2:
         yield from (by("not", x), by("eqb", *given))
     elif name == "within" and len(given) == 3:
         yield from (by("leb", given[0], given[2]), by("leb", given[2], given[1]))
@@ -116,7 +117,7 @@ def of_function(x, name, given):
         yield by("decided", given[0], given[2], given[1], given[3])
     elif name in LEFT_OUT and len(given) == LEFT_OUT[name][0]:
         yield given[LEFT_OUT[name][1]]
-    elif name.startswith("with") and name in LEFT_OUT and len(given) == LEFT_OUT[name][0] - 1:
+    elif name.startswith("with_") and name in LEFT_OUT and len(given) == LEFT_OUT[name][0] - 1:
         yield Function(("_",), given[0])
 
 

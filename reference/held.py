@@ -17,7 +17,7 @@ TABLES = {"RackTable": rows.RACK, "Witnesses": rows.WITNESSES, "FrameTable": row
           "CounterTable": rows.COUNTERS, "PortTable": rows.PORTS, "OutputTable": rows.OUTPUTS, "NoticeTable": rows.NOTICES,
           "ThermostatTable": rows.THERMOSTATS, "RegisterTable": rows.REGISTERS, "CoilTable": rows.COILS, "UnreachedTable": rows.UNREACHED}
 # a state that is too far for playing, as the law of Wraps gives it
-NEARER = {"(run freshModule (cycles 2147483647))": "counted 4294967294"}
+NEARER = {"(run fresh_module (cycles 2147483647))": "counted 4294967294"}
 PROGRAMS = ["rack", "scenarios"]
 LONG = 1000  # samples: no row has more, but the scripts have
 
@@ -71,7 +71,7 @@ def is_frame(kind):
 
 def closed(kind, frame, values):
     """A frame with the checksum of the definitions, as the tables have it."""
-    return values[python("Frames.withCrc" if kind == "modbus" else "Frames.closed")](tuple(frame[:-2]))
+    return values[python("Frames.with_crc" if kind == "modbus" else "Frames.closed")](tuple(frame[:-2]))
 
 
 def asked(row, values):
@@ -211,7 +211,7 @@ def programs(world):
     for name in PROGRAMS:
         folder = os.path.join(ROOT, "crates", name)
         with open(os.path.join(folder, "stdin"), "rb") as script, open(os.path.join(folder, "stdout")) as stored:
-            whole = Sequence(world, name, "program", "freshModule", list(script_lines(script.read())))
+            whole = Sequence(world, name, "program", "fresh_module", list(script_lines(script.read())))
             wanted = [line.rstrip("\n") for line in stored if line[0].isdigit()]
         given = [" ".join([str(number)] + ["%02X" % b for b in reply]) for line in whole.lines for number, reply in line.answers]
         if given != wanted:
@@ -242,7 +242,7 @@ class Tally(Fact):
     def differs(self, values, key):
         """By the whole list of calls."""
         made = tuple(one for row in self.listed for one, count in asked(row, values) for _ in range(count))
-        held = values[python("Cycles.finalTally")](made)["input"]
+        held = values[python("Cycles.final_tally")](made)["input"]
         return any((held(k)["edges"], held(k)["collected"]) != (edges, collected) for k, edges, collected in self.accounts)
 
 
@@ -262,7 +262,7 @@ class Claim(Fact):
         """By the call's frame alone."""
         one = asked(self.row, values)[0][0]
         if isinstance(self.wanted, bool):
-            return values[python("Demand1.resetsModule")](one["act"]) != self.wanted
+            return values[python("Demand1.resets_module")](one["act"]) != self.wanted
         return values[python("ClaimTable.left")](one) != tuple(self.wanted)
 
 

@@ -25,9 +25,9 @@ def refusals(f, m, c):
     first = first_of(f("Demand1.checks", m, c["room"], c["act"]))
     return (number == first <= f("Demand1.greatest") and len(reply) <= 256
             and (not 1 <= number <= 6 or out["after"] == m and reply == ())
-            and (number < 7 or out["after"] == f("Demand1.permissionEnded", c["act"], m))
-            and (number < 7 or reply == f("Demand1.refusalReply", number, c["act"], m))
-            and (not f("Demand1.isBroadcast", c["act"]) or reply == ()))
+            and (number < 7 or out["after"] == f("Demand1.permission_ended", c["act"], m))
+            and (number < 7 or reply == f("Demand1.refusal_reply", number, c["act"], m))
+            and (not f("Demand1.is_broadcast", c["act"]) or reply == ()))
 
 
 def permissions(f, m, c):
@@ -35,8 +35,8 @@ def permissions(f, m, c):
     out = f("Calls.step", m, c)
     after = out["after"]
     return (out["refusal"] != 0
-            or f("Demand1.portPermitted", c["act"], after) == f("Demand1.givesPermission", c["act"])
-            and (not f("Demand1.resetsModule", c["act"]) or not after["spinel"]["permitted"] and not after["modbus"]["permitted"]))
+            or f("Demand1.port_permitted", c["act"], after) == f("Demand1.gives_permission", c["act"])
+            and (not f("Demand1.resets_module", c["act"]) or not after["spinel"]["permitted"] and not after["modbus"]["permitted"]))
 
 
 def parts_kept(f, m, c):
@@ -79,12 +79,12 @@ class Conserved(Fact):
     def differs(self, values, key):
         """The sum always; exactly where at most 4,294,967,295 stand uncollected at the end, or never more did since the last clearing."""
         f = naming(values)
-        held = f("Cycles.finalTally", self.made)
-        events = f("Cycles.events", f("State.freshModule"), self.made)
+        held = f("Cycles.final_tally", self.made)
+        events = f("Cycles.events", f("State.fresh_module"), self.made)
         for k in (1, 2, 16):
-            account, counter = held["input"](k), f("Cycles.counterNow", self.made, k)
+            account, counter = held["input"](k), f("Cycles.counter_now", self.made, k)
             more = account["edges"] - account["collected"] - counter
-            stayed = f("Tally.stayed", k, True, f("Tally.freshTally"), events)
+            stayed = f("Tally.stayed", k, True, f("Tally.fresh_tally"), events)
             if more < 0 or more % LIMIT or more and (stayed or f("Tally.uncollected", held, k) < LIMIT):
                 return True
         return False
@@ -100,24 +100,24 @@ class Turn(Fact):
     def differs(self, values, key):
         """By one cycle from that count."""
         f = naming(values)
-        cycle = tuple(f("Exchanges.sampleOf", bits) for bits in (1, 0))
+        cycle = tuple(f("Exchanges.sample_of", bits) for bits in (1, 0))
         return f("Calls.run", f("Wraps.counted", self.count), cycle) != f("Wraps.counted", (self.count + 2) % LIMIT)
 
 
 # A law about a request -----------------------------------------------------------------------
 
 class Judged(Fact):
-    """judged-follows of Refused: the first of the claim's conditions refuses, the part is then as before, and there are no data; and
-    judged-either of Judged: where none holds, it does what it asks for."""
+    """judged_follows of Refused: the first of the claim's conditions refuses, the part is then as before, and there are no data; and
+    judged_either of Judged: where none holds, it does what it asks for."""
 
     def __init__(self, world, numbers):
-        super().__init__(world, "Refused.judged-follows of " + (" ".join(map(str, numbers)) or "none"), "law")
+        super().__init__(world, "Refused.judged_follows of " + (" ".join(map(str, numbers)) or "none"), "law")
         self.request = {"holds": lambda number: number in numbers, "after": "after", "reply": (1,)}
 
     def differs(self, values, key):
         """By the request with these conditions and no other."""
         f = naming(values)
-        first = first_of(f("Demand1.requestChecks", self.request))
+        first = first_of(f("Demand1.request_checks", self.request))
         part, reply = ("before", ()) if first else ("after", (1,))
         return f("Refusals.judged", "before", self.request) != {"refusal": first, "part": part, "reply": reply}
 
@@ -126,7 +126,7 @@ def laws(world, cases):
     """All of them: those about a call on every case, demand 3 on the cases from a fresh module, that about a request on every set."""
     for law in (refusals, permissions, parts_kept):
         yield from (OnCalls(world, law, case) for case in cases)
-    short = [case for case in cases if case.start == "freshModule" and sum(count for line in case.lines for _, count in line.calls) <= LONG]
+    short = [case for case in cases if case.start == "fresh_module" and sum(count for line in case.lines for _, count in line.calls) <= LONG]
     yield from (Conserved(world, case).noted() for case in short)
     yield from (Turn(world, count).noted() for count in (0, 254, 65534, LIMIT - 3, LIMIT - 2, LIMIT - 1))
     sets = (numbers for count in range(len(REFUSALS) + 1) for numbers in itertools.combinations(REFUSALS, count))

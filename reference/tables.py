@@ -2,7 +2,8 @@
 """Writes the tables of closed cases of crates/model/proofs: Computing, RackTable, Witnesses, FrameTable, SampleTable, CounterTable,
 PortTable, OutputTable, NoticeTable, ThermostatTable, RegisterTable, CoilTable, UnreachedTable, TallyTable, ClaimTable.
 
-Usage, at the repository's root:  reference/tables.py && rt fmt        reference/tables.py --count prints how many rows there are
+Usage:  reference/tables.py         writes them as rt fmt lays them out
+        reference/tables.py --count prints how many rows there are
 
 The cases are in rows.py; what they answer is worked out by module.py, which is written from documents 01 and 02 alone. The prover then holds the
 definitions to these answers.
@@ -20,7 +21,7 @@ PROOFS = os.path.join(ROOT, "crates/model/proofs/")
 SPECS = """State Times Samples Frames Refusals Wire Counters Temperature Outputs Notice Registers Spinel Modbus Call Calls Demand1 Tally Cycles
 Parts""".split()
 LISTS = "Tests Mapi Walk Numbers Chunks Entries".split()
-SHUT = {"done", "walk", "allPass", "someBelow", "entriesOf", "entryAdded"}
+SHUT = {"done", "walk", "all_pass", "some_below", "entries_of", "entry_added"}
 WIDTH = 150
 
 
@@ -35,7 +36,7 @@ def plain(n):
     return str(n) if n < 1000 else f"0x{n:04X}"
 
 
-def listed(items, show, indent=10):
+def listed(items, show, indent=6):
     """A list, a long run of equal items by `replicate`, long lines broken."""
     if not items:
         return "[]"
@@ -67,7 +68,7 @@ def lent(text, room):
 
 
 def spinel_text(a, s, code, data):
-    name = "asked" if (a, s) == (0x31, 2) else f"askedAt {hexed(a)}" if s == 2 else f"askedBy {hexed(s)}"
+    name = "asked" if (a, s) == (0x31, 2) else f"asked_at {hexed(a)}" if s == 2 else f"asked_by {hexed(s)}"
     if a != 0x31 and s != 2:
         raise ValueError("neither address nor signature is plain")
     return f"{name} {hexed(code)} {hex_list(data)}"
@@ -75,7 +76,7 @@ def spinel_text(a, s, code, data):
 
 def modbus_text(a, fn, body):
     if a != 0x31:
-        return f"sentTo {hexed(a)} {hexed(fn)} {hex_list(body)}"
+        return f"sent_to {hexed(a)} {hexed(fn)} {hex_list(body)}"
     if 1 <= fn <= 6 and len(body) == 4:
         return f"requested {hexed(fn)} {plain(word_at(body, 0))} {plain(word_at(body, 2))}"
     if fn == 0x10 and len(body) > 5 and body[4] == len(body) - 5 == 2 * word_at(body, 2):
@@ -88,28 +89,28 @@ def modbus_text(a, fn, body):
 def call_text(c):
     kind = c[0]
     if kind == "sample":
-        return lent(f"sampleOf {plain(c[1])}", c[3])
+        return lent(f"sample_of {plain(c[1])}", c[3])
     if kind == "temperature":
         tenths = f"(pos {c[2]})" if c[2] >= 0 else f"(negsuc {-c[2] - 1})"
-        return f"temperatureOf {'true' if c[1] else 'false'} {tenths}"
+        return f"temperature_of {'true' if c[1] else 'false'} {tenths}"
     if kind == "spinel":
         return lent(spinel_text(*c[1:5]), c[5])
     if kind == "modbus":
         return lent(modbus_text(*c[1:4]), c[4])
-    return lent(f"{kind.split()[0]}Frame {hex_list(c[1])}", c[2])
+    return lent(f"{kind.split()[0]}_frame {hex_list(c[1])}", c[2])
 
 
 def spinel_answer(n, bs):
     a, s, code, data = bs[4], bs[5], bs[6], bs[7:-2]
     if code == 0x0D:
         return f"announces {hexed(a)} {hexed(s)} {hex_list(data)}"
-    which, more = ("", "") if (a, s) == (0x31, 2) else ("From", " " + hexed(a)) if s == 2 else ("To", " " + hexed(s))
+    which, more = ("", "") if (a, s) == (0x31, 2) else ("_from", " " + hexed(a)) if s == 2 else ("_to", " " + hexed(s))
     return f"refuses{which}{more} {n} {hexed(code)}" if n else f"answers{which}{more} {hex_list(data)}"
 
 
 def modbus_answer(n, bs):
     a, fn, body = bs[0], bs[1], bs[2:-2]
-    where, more = ("", "") if a == 0x31 else ("From", " " + hexed(a))
+    where, more = ("", "") if a == 0x31 else ("_from", " " + hexed(a))
     if n:
         return f"excepts{where}{more} {n} {hexed(fn)} {hexed(body[0])}"
     if a == 0x31 and fn in (3, 4) and len(body) <= 33:
@@ -130,11 +131,11 @@ def answer_text(c, n, bs):
 def row_text(c, answer):
     """One row, with what joins it to the next."""
     if c[0] == "doors":
-        return f"inTurn {c[2]} {listed(c[1], plain)} ++"
+        return f"in_turn {c[2]} {listed(c[1], plain)} ++"
     if c[0] == "sample" and c[2] > 1:
         return f"quiet {c[2]} {plain(c[1])} ++"
     asked, told = call_text(c), answer_text(c, *answer)
-    joint = " ⇒ " if len(asked.split("\n")[-1]) + len(told.split("\n")[0]) < WIDTH - 10 else "\n        ⇒ "
+    joint = " ⇒ " if len(asked.split("\n")[-1]) + len(told.split("\n")[0]) < WIDTH - 10 else "\n      ⇒ "
     return f"({asked}{joint}{told}) ∷"
 
 
@@ -149,9 +150,9 @@ def tally_text(name, shows, calls, accounts):
     shown = ""
     for c in calls:
         if c[0] == "doors":
-            shown += f"      samplesInTurn {c[2]} {listed(c[1], plain)} ++\n"
+            shown += f"      samples_in_turn {c[2]} {listed(c[1], plain)} ++\n"
         elif c[0] == "sample" and c[2] > 1:
-            shown += f"      replicate {c[2]} (sampleOf {plain(c[1])}) ++\n"
+            shown += f"      replicate {c[2]} (sample_of {plain(c[1])}) ++\n"
         else:
             shown += f"      {call_text(c)} ∷\n"
     held = " ∷ ".join("account %d %d %d" % a for a in accounts)
@@ -161,29 +162,31 @@ def tally_text(name, shows, calls, accounts):
 def claim_text(name, call, wanted):
     """What a call leaves of the state, or whether it resets."""
     if isinstance(wanted, bool):
-        return f"  pub {name} : resetsModule (({call_text(call)}) .act) ≡ {'true' if wanted else 'false'}\n"
+        return f"  pub {name} : resets_module ({call_text(call)}).act ≡ {'true' if wanted else 'false'}\n"
     return f"  pub {name} : left ({call_text(call)}) ≡ {' ∷ '.join(map(str, wanted))} ∷ []\n"
 
 
 # Files ------------------------------------------------------------------------------
 
 PLACES = {
-    "ℕ": "Prim.Native.Nat", "true": "mathlib.Core.Bool", "false": "mathlib.Core.Bool", "refl": "mathlib.Core.Path", "_≡_": "mathlib.Core.Path",
-    "[]": "mathlib.Core.List", "_∷_": "mathlib.Core.List", "_++_": "mathlib.Core.List", "List": "mathlib.Core.List", "map": "mathlib.Core.List",
-    "flatMap": "mathlib.Core.List", "replicate": "lib.ListN", "pos": "lib.IntN", "negsuc": "lib.IntN",
-    **{n: "Rattle·model·specs.specs.State" for n in """freshModule withInputs withSampling withModes withCounters withOutputs withPresets withThermostats
-       withReading withNotice withSpinel withModbus line output preset thermostat notice port freshLine freshOutput freshPreset
-       freshThermostat""".split()},
-    "set": "lib.ListN", "Valid": "Rattle·model·specs.specs.declared.Reading.the-variants", "ofBits": "lib.Ieee", "binary32": "lib.Ieee", "Call": "Rattle·model·specs.specs.Call", "Tally": "Rattle·model·specs.specs.Tally", "finalTally": "Rattle·model·specs.specs.Cycles",
-    "run": "Rattle·model·specs.specs.Calls", "computing": "Rattle·model·proofs.proofs.Computing", "unchecked": "Rattle·model·proofs.proofs.Computing",
-    "eqb-same": "Rattle·model·proofs.proofs.Checksums", "passed": "Rattle·model·proofs.proofs.Checksums", "cycles": "Rattle·model·proofs.proofs.Wraps",
-    "wraps": "Rattle·model·proofs.proofs.Wraps", "cond": "mathlib.Core.Bool", "getD": "lib.ListN",
-    "Module": "Rattle·model·specs.specs.declared.Module", "readingWords": "Rattle·model·specs.specs.Temperature",
-    "resetsModule": "Rattle·model·specs.specs.Demand1", "leaves": "Rattle·model·specs.specs.Parts",
+    "ℕ": "Prim.Native.Nat", "true": "mathlib.Core.Bool", "false": "mathlib.Core.Bool", "refl": "mathlib.Core.Path", "◌≡◌": "mathlib.Core.Path",
+    "[]": "mathlib.Core.List", "◌∷◌": "mathlib.Core.List", "◌++◌": "mathlib.Core.List", "List": "mathlib.Core.List", "map": "mathlib.Core.List",
+    "flat_map": "mathlib.Core.List", "replicate": "lib.ListN", "pos": "lib.IntN", "negsuc": "lib.IntN",
+    **{n: "Rattle.model.specs.State" for n in """fresh_module with_inputs with_sampling with_modes with_counters with_outputs with_presets
+       with_thermostats with_reading with_notice with_spinel with_modbus line output preset thermostat notice port fresh_line fresh_output
+       fresh_preset fresh_thermostat""".split()},
+    "Valid": "Rattle.model.specs.declared.Reading.TheVariants", "of_bits": "lib.Ieee", "binary32": "lib.Ieee",
+    "Call": "Rattle.model.specs.Call", "Tally": "Rattle.model.specs.Tally", "final_tally": "Rattle.model.specs.Cycles",
+    "run": "Rattle.model.specs.Calls", "computing": "Rattle.model.proofs.Computing", "unchecked": "Rattle.model.proofs.Computing",
+    "eqb_same": "Rattle.model.proofs.Checksums", "passed": "Rattle.model.proofs.Checksums", "cycles": "Rattle.model.proofs.Wraps",
+    "wraps": "Rattle.model.proofs.Wraps", "cond": "mathlib.Core.Bool", "get_or": "lib.ListN",
+    "Module": "Rattle.model.specs.declared.Module", "reading_words": "Rattle.model.specs.Temperature",
+    "resets_module": "Rattle.model.specs.Demand1", "leaves": "Rattle.model.specs.Parts",
 }
-EXCHANGES = """Plays _⇒_ sampleOf temperatureOf spinelFrame modbusFrame lending two asked askedAt askedBy sent sentTo requested written switched
-reply silently answers answersFrom answersTo refuses refusesFrom refusesTo announces gives givesFrom shows echoes excepts exceptsFrom quiet inTurn samplesInTurn""".split()
-PLACES.update({n: "Rattle·model·proofs.proofs.Exchanges" for n in EXCHANGES})
+EXCHANGES = """Plays ◌⇒◌ sample_of temperature_of spinel_frame modbus_frame lending two asked asked_at asked_by sent sent_to requested written
+switched reply silently answers answers_from answers_to refuses refuses_from refuses_to announces gives gives_from shows echoes excepts
+excepts_from quiet in_turn samples_in_turn""".split()
+PLACES.update({n: "Rattle.model.proofs.Exchanges" for n in EXCHANGES})
 
 
 def use(place, names):
@@ -201,33 +204,33 @@ def uses(text):
     """The `use` lines of what a text names."""
     names = {}
     for n, place in PLACES.items():
-        word = n.strip("_")
-        if re.search(r"(?<![\w·.])" + re.escape(word) + r"(?![\w·])", re.sub(r"--.*", "", text)):
+        word = n.strip("◌")
+        if re.search(r"(?<![\w.])" + re.escape(word) + r"(?!\w)", re.sub(r"--.*", "", text)):
             names.setdefault(place, []).append(n)
     order = list(PLACES.values())
     return "".join(use(place, ns) for place, ns in sorted(names.items(), key=lambda x: order.index(x[0])))
 
 
 # states that a law gives, because they are too far for computing
-LAWS = {"(run freshModule (cycles 2147483647))": "wraps"}
+LAWS = {"(run fresh_module (cycles 2147483647))": "wraps"}
 # calls whose CRC a row takes from the definition
-CLOSED = re.compile(r"\b(sent|sentTo|requested|written|switched) ")
+CLOSED = re.compile(r"\b(sent|sent_to|requested|written|switched) ")
 
 
 def answer(case, text):
     """The proof of a case that need not compute the CRC of the frames it closes itself."""
     if str(case[2]) in LAWS:
         return LAWS[str(case[2])]
-    if "modbusFrame" in text:
+    if "modbus_frame" in text:
         return "unfold computing in refl"
-    return f"passed _ _ _ {'(simp eqb-same)' if CLOSED.search(text) else 'refl'} refl"
+    return f"passed _ _ _ {'(simp eqb_same)' if CLOSED.search(text) else 'refl'} refl"
 
 
 def table(record, top, cases, write=case_text, before=""):
-    value = record[0].lower() + record[1:]
+    value = re.sub(r"(?<!^)([A-Z])", r"_\1", record).lower()
     texts = [write(*c) for c in cases]
     body = before + f"pub record {record} : Type 0 where\n" + "".join(texts) + f"\npub {value} : {record}\n"
-    if write is case_text and sum(bool(CLOSED.search(t)) for t in texts) > 2 * sum("modbusFrame" in t for t in texts):
+    if write is case_text and sum(bool(CLOSED.search(t)) for t in texts) > 2 * sum("modbus_frame" in t for t in texts):
         body += "unfolding unchecked\n" + f"{value} = record {{\n" + "".join(f"  {c[0]} = {answer(c, t)};\n" for c, t in zip(cases, texts)) + "}\n"
     else:
         body += f"unfolding computing\n{value} = record {{\n" + "".join(f"  {c[0]} = {LAWS.get(str(c[2]), 'refl')};\n" for c in cases) + "}\n"
@@ -245,11 +248,11 @@ abbrev account : ℕ → ℕ → ℕ → Row
 account k e c = record { input = k; edges = e; collected = c }
 
 abbrev held : Tally → ℕ → Row
-held t k = account k (t .input k .edges) (t .input k .collected)
+held t k = account k (t.input k).edges (t.input k).collected
 
 -- after these calls from a fresh module the tally holds these rows
 abbrev Tallies : List Call → List Row → Type 0
-Tallies calls rows = map (λ (r : Row). held (finalTally calls) (r .input)) rows ≡ rows
+Tallies calls rows = map (λ (r : Row). held (final_tally calls) r.input) rows ≡ rows
 
 """
 
@@ -266,8 +269,8 @@ marked = record {
     thermostats = thermostat 8 (pos 8) (pos 8) 8 8 ∷ [];
     notice = notice 11 12 13;
   };
-  reading = Valid (pos 9) (ofBits binary32 9);
-  last = Valid (pos 10) (ofBits binary32 10);
+  reading = Valid (pos 9) (of_bits binary32 9);
+  last = Valid (pos 10) (of_bits binary32 10);
   spinel = port 14 15 true;
   modbus = port 17 18 true;
 }
@@ -275,30 +278,30 @@ marked = record {
 -- the parts in that order; 0 for one that is not there
 abbrev parts : Module → List ℕ
 parts m =
-    cond (getD (m .inputs .lines) 0 freshLine .stable) 1 0
-    ∷ getD (m .inputs .lines) 0 freshLine .run
-    ∷ getD (m .settings .modes) 0 0
-    ∷ getD (m .inputs .counters) 0 0
-    ∷ m .settings .sampling
-    ∷ getD (m .outputs) 0 freshOutput .left
-    ∷ getD (m .settings .presets) 0 freshPreset .kind
-    ∷ getD (m .settings .thermostats) 0 freshThermostat .flags
-    ∷ getD (readingWords (m .reading)) 1 0
-    ∷ getD (readingWords (m .last)) 1 0
-    ∷ m .settings .notice .format
-    ∷ m .settings .notice .mask
-    ∷ m .settings .notice .signature
-    ∷ m .spinel .address
-    ∷ m .spinel .speed
-    ∷ cond (m .spinel .permitted) 16 0
-    ∷ m .modbus .address
-    ∷ m .modbus .speed
-    ∷ cond (m .modbus .permitted) 19 0
+    cond (get_or m.inputs.lines 0 fresh_line).stable 1 0
+    ∷ (get_or m.inputs.lines 0 fresh_line).run
+    ∷ get_or m.settings.modes 0 0
+    ∷ get_or m.inputs.counters 0 0
+    ∷ m.settings.sampling
+    ∷ (get_or m.outputs 0 fresh_output).left
+    ∷ (get_or m.settings.presets 0 fresh_preset).kind
+    ∷ (get_or m.settings.thermostats 0 fresh_thermostat).flags
+    ∷ get_or (reading_words m.reading) 1 0
+    ∷ get_or (reading_words m.last) 1 0
+    ∷ m.settings.notice.format
+    ∷ m.settings.notice.mask
+    ∷ m.settings.notice.signature
+    ∷ m.spinel.address
+    ∷ m.spinel.speed
+    ∷ cond m.spinel.permitted 16 0
+    ∷ m.modbus.address
+    ∷ m.modbus.speed
+    ∷ cond m.modbus.permitted 19 0
     ∷ []
 
 -- what a call leaves of it
 abbrev left : Call → List ℕ
-left c = parts (leaves (c .act) marked)
+left c = parts (leaves c.act marked)
 
 """
 
@@ -307,21 +310,21 @@ left c = parts (leaves (c .act) marked)
 
 def computing():
     opened, names = [], []
-    for crate, folder, files in (("lists", "Rattle·lists.specs", LISTS), ("model", "Rattle·model·specs.specs", SPECS)):
+    for crate, folder, files in (("lists", "Rattle.lists.specs", LISTS), ("model", "Rattle.model.specs", SPECS)):
         for f in files:
             text = open(os.path.join(ROOT, f"crates/{crate}/specs/{f}.antt")).read()
             found = [n for n in re.findall(r"^unfoldable pub (\S+)", text, re.M) if n not in SHUT]
             if found:
                 opened.append(use(f"{folder}.{f}", found))
                 names += found
-    names += ["flatMap", "div", "ofInt", "ofBits", "toBits", "isNan", "samplesInTurn", "uncheckedStep", "uncheckedReplies"]
-    checked = ["crcBit", "crcBits", "crcByte", "crcOf", "replies"]
+    names += ["flat_map", "div", "of_int", "of_bits", "to_bits", "is_nan", "samples_in_turn", "unchecked_step", "unchecked_replies"]
+    checked = ["crc_bit", "crc_bits", "crc_byte", "crc_of", "replies"]
     names = [n for n in names if n not in checked]
     text = """-- The definitions opened for computing on closed calls. Written by reference/tables.py. Assumes nothing.
-use mathlib.Core.List.{flatMap}
-use lib.Ieee.{div, ofInt, ofBits, toBits, isNan}
-""" + "".join(opened) + """use Rattle·model·proofs.proofs.Exchanges.{samplesInTurn}
-use Rattle·model·proofs.proofs.Checksums.{uncheckedStep, uncheckedReplies}
+use mathlib.Core.List.{flat_map}
+use lib.Ieee.{div, of_int, of_bits, to_bits, is_nan}
+""" + "".join(opened) + """use Rattle.model.proofs.Exchanges.{samples_in_turn}
+use Rattle.model.proofs.Checksums.{unchecked_step, unchecked_replies}
 
 -- naming this on an `unfolding` line opens all that its own line names: every definition but the CRC, for rows that go by `passed`
 unfoldable pub unchecked : Unit {0}

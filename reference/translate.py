@@ -4,7 +4,7 @@ A file's text becomes clauses, a clause an expression tree, a tree Python source
 floats) is written here in Python. Values: a number is an int, a Bool a bool, a list a tuple, a record a dict, a constructor a tuple that
 begins with its name, a Float its bits; a function that is passed on takes one argument at a time.
 
-The names of a file are its own and those of its `use` lines; a definition is called by its file and name, as Frames.sumOf.
+The names of a file are its own and those of its `use` lines; a definition is called by its file and name, as Frames.sum_of.
 """
 import math
 import os
@@ -90,7 +90,7 @@ BINDS = {"⇒": (0, False), "||": (1, True), "&&": (2, True), "∷": (4, True), 
          "*": (6, False), "/": (6, False), "%": (6, False), "^": (7, True)}
 TOKEN = re.compile(r"""\s*(?:(?P<number>0x[0-9A-Fa-f_]+|\d[\d_]*)
                            |(?P<field>\.)(?=[A-Za-z0-9])
-                           |(?P<name>(?!λ)[^\W\d][\w·′]*)
+                           |(?P<name>(?!λ)[^\W\d][\w']*)
                            |(?P<sign>\+\+|&&|\|\||[λ∷→≡⇒≤×↔+*/%^(){};:=.\[\]-]))""", re.X)
 
 
@@ -173,19 +173,24 @@ class Parser:
         return left
 
     def application(self):
-        """A function with arguments and fields."""
+        """A function with arguments."""
         head, arguments = self.atom(), []
         while True:
             kind, text = self.next()
-            if kind == "field":
-                self.take()
-                head, arguments = Field(applied(head, arguments), self.take()), []
-            elif kind == "number" or text in ("(", "[") or kind == "name" and text not in ("in", "let"):
+            if kind == "number" or text in ("(", "[") or kind == "name" and text not in ("in", "let"):
                 arguments.append(self.atom())
             else:
                 return applied(head, arguments)
 
     def atom(self):
+        """What stands by itself, with the fields that are taken of it."""
+        whole = self.plain()
+        while self.next()[0] == "field":
+            self.take()
+            whole = Field(whole, self.take())
+        return whole
+
+    def plain(self):
         """A number, a name, a record, the empty list, or an expression in parentheses."""
         kind, _ = self.next()
         text = self.take()
@@ -254,8 +259,8 @@ def parsed(text):
 
 # Files --------------------------------------------------------------------------------
 
-DEFINED = re.compile(r"(?:abbrev|unfoldable) (?:pub )?(?P<name>[a-z][\w·′]*) :")
-USED = re.compile(r"use (?P<place>[\w·.-]+)\.\{(?P<names>.*)\}")
+DEFINED = re.compile(r"(?:abbrev|unfoldable) (?:pub )?(?P<name>[a-z][\w']*) :")
+USED = re.compile(r"use (?P<place>[\w.]+)\.\{(?P<names>.*)\}")
 
 
 def read(kind, name):
@@ -298,7 +303,7 @@ def used(block):
     """The names of a `use` line, by the file of the repository that they come from."""
     match = USED.fullmatch(block)
     home = match["place"].split(".")[-1]
-    if not match["place"].startswith("Rattle·") or ".declared." in match["place"]:
+    if not match["place"].startswith(("Rattle.lists.", "Rattle.model.")) or ".declared." in match["place"]:
         return {}
     return {name.strip(): home + "." + name.strip() for name in match["names"].split(",")}
 
@@ -379,10 +384,10 @@ SIGNS = {"∷": "((%s,) + %s)", "++": "(%s + %s)", "&&": "(%s and %s)", "||": "(
          "%": "remainder(%s, %s)", "^": "(%s ** %s)", "+": "(%s + %s)", "*": "(%s * %s)", "⇒": "(%s, %s)"}
 # definitions that a change may bring into a file which does not use them
 BESIDE = {name: file + "." + name for file, names in [
-    ("State", "withSpinel withModbus withCounters withModes"),
-    ("Frames", "spinelTo modbusTo spinelBroadcast modbusBroadcast signatureOf instructionOf"),
-    ("Refusals", "spinelAddressWrong modbusAddressWrong spinelBroadcastWrong modbusBroadcastWrong sumWrong crcWrong ackOf exceptionOf"),
-    ("Spinel", "spinelWire"), ("Modbus", "modbusWire")] for name in names.split()}
+    ("State", "with_spinel with_modbus with_counters with_modes"),
+    ("Frames", "spinel_to modbus_to spinel_broadcast modbus_broadcast signature_of instruction_of"),
+    ("Refusals", "spinel_address_wrong modbus_address_wrong spinel_broadcast_wrong modbus_broadcast_wrong sum_wrong crc_wrong ack_of exception_of"),
+    ("Spinel", "spinel_wire"), ("Modbus", "modbus_wire")] for name in names.split()}
 CONSTANTS = {"true": "True", "false": "False", "zero": "0", "binary32": "None", "tt": "()"}
 # fields that hold a function which is asked for the same again and again
 REMEMBERED = {"input"}
@@ -390,12 +395,12 @@ REMEMBERED = {"input"}
 
 def python(key):
     """A name that Python takes."""
-    return "f_" + re.sub(r"\W", "_", key.replace("′", "_prime"))
+    return "f_" + re.sub(r"\W", "_", key.replace("'", "_prime"))
 
 
 def variable(name):
     """A variable's name in Python."""
-    return "v_" + name.replace("′", "_prime")
+    return "v_" + name.replace("'", "_prime")
 
 
 def match(pattern, value, tests, bound):
@@ -557,13 +562,13 @@ def quotient(_, a, b):
 # what the library gives: how many arguments it takes, and the function
 LIBRARY = {
     "not": (1, lambda a: not a), "length": (1, len), "eqb": (2, lambda a, b: a == b), "leb": (2, lambda a, b: a <= b),
-    "ltb": (2, lambda a, b: a < b), "ltZ": (2, lambda a, b: a < b), "leZ": (2, lambda a, b: a <= b), "Bool·beq": (2, lambda a, b: a == b),
-    "cond": (3, lambda t, a, b: a if t else b), "getD": (3, lambda l, at, d: l[at] if at < len(l) else d), "set": (3, put),
+    "ltb": (2, lambda a, b: a < b), "lt_z": (2, lambda a, b: a < b), "le_z": (2, lambda a, b: a <= b), "beq": (2, lambda a, b: a == b),
+    "cond": (3, lambda t, a, b: a if t else b), "get_or": (3, lambda l, at, d: l[at] if at < len(l) else d), "set": (3, put),
     "take": (2, lambda n, l: l[:n]), "drop": (2, lambda n, l: l[n:]), "replicate": (2, lambda n, x: (x,) * n),
-    "map": (2, lambda f, l: tuple(map(f, l))), "flatMap": (2, lambda f, l: tuple(y for x in l for y in f(x))), "foldl": (3, folded),
-    "bitXor": (2, lambda a, b: a ^ b), "suc": (1, lambda n: n + 1), "pos": (1, lambda n: n), "negsuc": (1, lambda n: -n - 1),
-    "div": (3, quotient), "ofInt": (2, lambda _, n: bits_of(n)), "ofBits": (2, lambda _, n: n), "toBits": (2, lambda _, x: x),
-    "isNan": (1, lambda x: real(x) != real(x)),
+    "map": (2, lambda f, l: tuple(map(f, l))), "flat_map": (2, lambda f, l: tuple(y for x in l for y in f(x))), "foldl": (3, folded),
+    "bit_xor": (2, lambda a, b: a ^ b), "suc": (1, lambda n: n + 1), "pos": (1, lambda n: n), "negsuc": (1, lambda n: -n - 1),
+    "div": (3, quotient), "of_int": (2, lambda _, n: bits_of(n)), "of_bits": (2, lambda _, n: n), "to_bits": (2, lambda _, x: x),
+    "is_nan": (1, lambda x: real(x) != real(x)),
 }
 # definitions whose translation is slow, for as long as they are not changed themselves
 FASTER = {

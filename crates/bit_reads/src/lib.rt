@@ -1,4 +1,6 @@
 // Coils and inputs that are read (01 02): bits of sixteen states, in bytes.
+#![tactic(auto)]
+
 ghost use Rattle.std.specs.Prelude.{◌≡◌, ◌+◌, ◌^◌, ◌≤◌};
 ghost use Rattle.lists.specs.Data.{data_of};
 ghost use Rattle.bit_reads.specs.Answers.{part_of, bits_shown, bits_told};

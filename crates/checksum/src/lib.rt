@@ -1,4 +1,6 @@
 // The two checks of a frame: the byte sum of Spinel and the CRC of Modbus.
+#![tactic(auto)]
+
 ghost use Rattle.std.specs.Prelude.{◌≡◌, ◌%◌};
 ghost use Rattle.model.specs.Frames.{total, sum_of, crc_bit, crc_byte, crc_of};
 

@@ -1,4 +1,6 @@
 // What requests do to the counters, modes and sampling number, each on no more of the state than it may change.
+#![tactic(auto)]
+
 ghost use Rattle.std.specs.Prelude.{◌≡◌, cond, not, ℕ};
 ghost use mathlib.Core.List.{List, foldl};
 ghost use Rattle.lists.specs.Tests.{all};

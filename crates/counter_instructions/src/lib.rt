@@ -1,4 +1,6 @@
 // What Spinel's instructions come to for the counters, the modes and the sampling number: decoded, judged, applied.
+#![tactic(auto)]
+
 ghost use Rattle.std.specs.Prelude.{◌≡◌, not};
 ghost use Rattle.lists.specs.Entries.{entries};
 ghost use Rattle.model.specs.State.{with_counters, with_modes, with_sampling};

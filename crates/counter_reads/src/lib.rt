@@ -1,4 +1,6 @@
 // Counters read and collected (60H).
+#![tactic(auto)]
+
 ghost use Rattle.std.specs.Prelude.{◌≡◌, List, ℕ};
 ghost use Rattle.model.specs.Refusals.{refusal_of};
 ghost use Rattle.model.specs.Counters.{parameters, read_one, read_counters};

@@ -1,4 +1,6 @@
 // What a write of registers 100, 200 and 300 up comes to for the counters and the modes: decoded, judged, applied.
+#![tactic(auto)]
+
 ghost use Rattle.std.specs.Prelude.{◌≡◌};
 ghost use Rattle.model.specs.State.{with_counters, with_modes};
 ghost use Rattle.model.specs.Refusals.{on_part, judged};

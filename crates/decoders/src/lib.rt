@@ -1,4 +1,6 @@
 // A request's data as entries: lists, registers, set bytes and coils, by one loop.
+#![tactic(auto)]
+
 ghost use Rattle.std.specs.Prelude.{◌≡◌, map, ◌/◌, ◌%◌, ◌^◌, ◌<◌, length, get_or, take};
 ghost use Rattle.lists.specs.Entries.{entry, entries, numbered, entries_of};
 ghost use Rattle.model.specs.Outputs.{set_byte};
@@ -11,7 +13,7 @@ use model::Group;
 
 // How bytes stand for entries: a number and its value of one byte or of four, values of two bytes for the registers of a group from one on,
 // a set byte each, or bits for so many coils from one on.
-#[derive(Drop)]
+#[derive(Clone, Copy)]
 enum Layout {
     Pairs,
     Fives,

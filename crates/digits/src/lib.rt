@@ -1,4 +1,6 @@
 // Numbers as text, in decimal and in hexadecimal: read, and written.
+#![tactic(auto)]
+
 ghost use Rattle.std.specs.Prelude.{◌≡◌, ◌<◌, ◌≤◌};
 ghost use Rattle.digits.specs.Reading.{digit, digits, decimal, hex, positive, negative, signed_decimal};
 ghost use Rattle.digits.specs.Writing.{character, written, places, numeral_of, decimal_text, hex_text};

@@ -1,4 +1,6 @@
 // Two-byte, four-byte and signed numbers, float words, sixteen-element arrays, and reply data.
+#![tactic(auto)]
+
 ghost use Rattle.std.specs.Prelude.{◌≡◌, cond, [], ◌∷◌, ◌+◌, ◌-◌, ◌*◌, ◌/◌, ◌%◌, min, get_or, set};
 ghost use Rattle.lists.specs.Data.{data_of, pushed, extended, bytes_in};
 ghost use Rattle.lists.specs.Numbers.{number, word_at, bytes};

@@ -1,4 +1,6 @@
 // Decoded entries, each a number and a value: made one by one, counted and looked up.
+#![tactic(auto)]
+
 ghost use Rattle.std.specs.Prelude.{◌≡◌, [], ◌∷◌, ◌-◌, ◌%◌, length, get_or, take};
 ghost use Rattle.lists.specs.Entries.{entry, entries_of, entries_in, entry_added};
 ghost use Rattle.model.specs.Counters.{is_number};

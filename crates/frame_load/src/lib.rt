@@ -1,4 +1,6 @@
 // One frame played again and again on either port, for a caller that times it.
+#![tactic(auto)]
+
 ghost use Rattle.std.specs.Prelude.{◌≡◌, length};
 ghost use Rattle.model.specs.Calls.{acted, Answered};
 ghost use Rattle.frame_load.specs.Play.{ready_to_play, act_of, play_one, buffer_one, play_many, buffer_many, outcome_of};

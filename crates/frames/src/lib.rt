@@ -1,4 +1,6 @@
 // Checks 2 to 6 of both ports' frames (01, the refusals), and where their data stand.
+#![tactic(auto)]
+
 ghost use Rattle.std.specs.Prelude.{◌≡◌, ◌≤◌, length};
 ghost use Rattle.model.specs.Frames.{spinel_data, modbus_body};
 ghost use Rattle.model.specs.Refusals.{frame_length_wrong, shape_wrong, sum_wrong, crc_wrong, spinel_address_wrong, modbus_address_wrong, spinel_broadcast_wrong, modbus_broadcast_wrong};

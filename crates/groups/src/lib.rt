@@ -1,4 +1,6 @@
 // The groups of Modbus registers, coils and inputs, and whether a range lies in one.
+#![tactic(auto)]
+
 ghost use Rattle.std.specs.Prelude.{◌≡◌, ◌-◌};
 ghost use Rattle.model.specs.Registers.{outside, number_at, no_thermostat};
 

@@ -1,4 +1,6 @@
 // What the sixteen thermostats do with a reading.
+#![tactic(auto)]
+
 ghost use Rattle.std.specs.Prelude.{◌≡◌};
 ghost use Rattle.model.specs.Temperature.{heated, failed, by_thermostat};
 ghost use Rattle.heating.specs.Parts.{taken_parts};

@@ -1,4 +1,6 @@
 // What a thermostat's flags say, and whether it holds its output. They are FSSKTTTT; nothing else reads them.
+#![tactic(auto)]
+
 ghost use Rattle.std.specs.Prelude.{◌≡◌, get_or};
 ghost use Rattle.model.specs.State.{fresh_thermostat};
 ghost use Rattle.model.specs.Temperature.{active, action, on_fall, sensor, setting_shown, free};

@@ -1,4 +1,6 @@
 // The sixteen inputs: the pass over the lines, which of them had an edge, counters, and the edges that a mask sees.
+#![tactic(auto)]
+
 ghost use Rattle.std.specs.Prelude.{◌≡◌, ◌<◌};
 ghost use Rattle.lists.specs.Tests.{any};
 ghost use Rattle.lists.specs.Numbers.{bit_at};
@@ -8,7 +10,7 @@ ghost use Rattle.inputs.specs.Passes.{any_masked, selected_lines, sampled_of, st
 use model::{Inputs, Line};
 
 // The inputs after a sample, which of them had an edge, and whether any had.
-#[derive(Drop)]
+#[derive(Clone, Copy)]
 pub struct Sampled {
     pub inputs: Inputs,
     pub edges: [bool; 16],

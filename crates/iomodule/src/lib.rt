@@ -1,4 +1,6 @@
 // The five calls: fresh, sample, temperature, spinel, modbus; and what demands 1 and 3 say of them.
+#![tactic(auto)]
+
 ghost use Rattle.std.specs.Prelude.{◌≡◌, ◌≤◌, length, take};
 ghost use Rattle.lists.specs.Data.{bytes_in, over};
 ghost use Rattle.model.specs.State.{fresh_module};

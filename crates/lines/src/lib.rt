@@ -1,4 +1,6 @@
 // One input: a sample of its line, its edges, and counting by mode.
+#![tactic(auto)]
+
 ghost use Rattle.std.specs.Prelude.{◌≡◌};
 ghost use Rattle.model.specs.Samples.{line_sampled, is_edge, selected_edge, counted};
 

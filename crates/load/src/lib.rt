@@ -1,18 +1,20 @@
 // Runs of generated samples, typical and full load: their outcome is checked, and they are timed.
+#![tactic(auto)]
+
 ghost use Rattle.std.specs.Prelude.{◌≡◌, length};
 ghost use Rattle.load.specs.Play.{next_seed, typical_next, noisy_next, source_next, play_one, buffer_one, play_many, buffer_many, start_of, left_by, summed};
 
 use model::{Module, Notice, Output};
 
 // Where the generator stands: its last number, and the sixteen bits of the last sample.
-#[derive(Drop)]
+#[derive(Clone, Copy)]
 pub struct Source {
     pub seed: u32,
     pub level: u16,
 }
 
 // The state after some samples, and how many bytes their notices had.
-#[derive(Drop)]
+#[derive(Clone, Copy)]
 pub struct Played {
     pub after: Module,
     pub source: Source,

@@ -1,4 +1,6 @@
 // The Modbus port: function and register range pick what serves a frame that passes its checks. `handle` is pure.
+#![tactic(auto)]
+
 ghost use Rattle.std.specs.Prelude.{◌≡◌, map, ◌≤◌, length};
 ghost use Rattle.model.specs.declared.Line.{Line as LineOf};
 ghost use Rattle.model.specs.Samples.{input_states};

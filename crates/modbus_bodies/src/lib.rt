@@ -1,4 +1,6 @@
 // What Modbus functions share: the checks of a body, what a read comes to, the echo of a write, 8 and 9.
+#![tactic(auto)]
+
 ghost use Rattle.std.specs.Prelude.{◌≡◌};
 ghost use Rattle.model.specs.Modbus.{quantity_wrong, count_wrong};
 ghost use Rattle.outcomes.specs.Parts.{plain};

@@ -7,8 +7,8 @@ use lib.IntN.{pos}
 use Rattle.model.specs.State.{fresh_module}
 use Rattle.model.proofs.Computing.{unchecked}
 use Rattle.model.proofs.Checksums.{eqb_same, passed}
-use Rattle.model.proofs.Exchanges.{Plays, ◌⇒◌, sample_of, temperature_of, asked, sent, requested, switched, silently, answers, gives, shows}
-use Rattle.model.proofs.Exchanges.{echoes, excepts}
+use Rattle.model.proofs.Exchanges.{Plays, ◌⇒◌, sample_of, temperature_of, asked, sent, requested, switched, silently, answers, gives, shows, echoes}
+use Rattle.model.proofs.Exchanges.{excepts}
 
 pub record CoilTable : Type 0 where
   -- 01: 1 to 2,000 of the sixteen, from any coil; the lowest first, eight to a byte, spare bits 0

@@ -4,8 +4,8 @@ use mathlib.Core.List.{[], ◌∷◌, ◌++◌}
 use Rattle.model.specs.State.{fresh_module}
 use Rattle.model.proofs.Computing.{unchecked}
 use Rattle.model.proofs.Checksums.{eqb_same, passed}
-use Rattle.model.proofs.Exchanges.{Plays, ◌⇒◌, sample_of, asked, asked_by, requested, silently, answers, answers_to, refuses, refuses_to}
-use Rattle.model.proofs.Exchanges.{announces, echoes, quiet}
+use Rattle.model.proofs.Exchanges.{Plays, ◌⇒◌, sample_of, asked, asked_by, requested, silently, answers, answers_to, refuses, refuses_to, announces}
+use Rattle.model.proofs.Exchanges.{echoes, quiet}
 
 pub record NoticeTable : Type 0 where
   -- 10H 01: all inputs without a mask; 11H shows 61H and the mask; on again: 11, mask and signature stay; 00 turns off

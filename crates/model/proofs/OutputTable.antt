@@ -2,7 +2,7 @@
 use mathlib.Core.Bool.{true}
 use mathlib.Core.Path.{refl}
 use mathlib.Core.List.{[], ◌∷◌, ◌++◌}
-use lib.ListN.{replicate, set}
+use lib.ListN.{replicate}
 use lib.IntN.{pos}
 use Rattle.model.specs.State.{fresh_module}
 use Rattle.model.proofs.Computing.{unchecked}

@@ -8,8 +8,8 @@ use Rattle.model.specs.Calls.{run}
 use Rattle.model.proofs.Computing.{unchecked}
 use Rattle.model.proofs.Checksums.{eqb_same, passed}
 use Rattle.model.proofs.Wraps.{cycles, wraps}
-use Rattle.model.proofs.Exchanges.{Plays, ◌⇒◌, sample_of, temperature_of, spinel_frame, asked, requested, reply, silently, answers, refuses}
-use Rattle.model.proofs.Exchanges.{shows, excepts, quiet}
+use Rattle.model.proofs.Exchanges.{Plays, ◌⇒◌, sample_of, temperature_of, spinel_frame, asked, requested, reply, silently, answers, refuses, shows}
+use Rattle.model.proofs.Exchanges.{excepts, quiet}
 
 pub record RackTable : Type 0 where
   -- a preset is set

@@ -23,6 +23,7 @@ use Rattle.model.proofs.Bridge.{amounts_agree, modes_given, taken_agrees, kept}
 use Rattle.model.specs.Cycles.{Counting, counting_of}
 use Rattle.model.proofs.Invariant.{Inv}
 use Rattle.model.proofs.Judged.{order}
+use Rattle.model.proofs.OneInput.{mode_after}
 use Rattle.model.proofs.Accepted.{Good}
 use Rattle.model.proofs.Effects as effects
 
@@ -66,7 +67,7 @@ module _ (i : ℕ) (small : i < 16) (m : Module) (t : Tally) (v : Inv i (countin
   modes_good : Good i (by 0x6A) (on_part (with_modes m) (set_modes_list d m.settings.modes))
   unfolding order set_modes_list set_modes spinel_sampling spinel_resets spinel_clears spinel_mode spinel_collects changed
   modes_good = record {
-    keeps = λ p. rw (modes_given i d) (rw (kept (with_mode _ u)) (effects.modes i small x t.sampling u v (entries 2 d) (not-false _ (p.at 11 refl))));
+    keeps = λ p. rw (modes_given i d) (rw (kept (with_mode (mode_after i (entries 2 d) u.mode) u)) (effects.modes i small x t.sampling u v (entries 2 d) (not-false _ (p.at 11 refl))));
   }
 
   sampling_good : Good i (by 0x62) (on_part (with_sampling m) (set_sampling d))

@@ -1,43 +1,45 @@
 // The module's state, and what a call answers.
 
+#![tactic(auto)]
+
 // One input: its stable state, and the run of samples that differ from it.
-#[derive(Drop)]
+#[derive(Clone, Copy)]
 pub struct Line {
     pub stable: bool,
     pub run: u8,
 }
 
 // What samples change of the inputs: each line, and what it has counted.
-#[derive(Drop)]
+#[derive(Clone, Copy)]
 pub struct Inputs {
     pub lines: [Line; 16],
     pub counters: [u32; 16],
 }
 
 // One output: its state, and the samples left of its pulse (0: no pulse).
-#[derive(Drop)]
+#[derive(Clone, Copy)]
 pub struct Output {
     pub on: bool,
     pub left: u32,
 }
 
 // A time in half seconds: of a pulse, of a preset.
-#[derive(Drop)]
+#[derive(Clone, Copy)]
 pub struct HalfSeconds(pub u8);
 
 // A time in seconds: a thermostat's TIME.
-#[derive(Drop)]
+#[derive(Clone, Copy)]
 pub struct Seconds(pub u8);
 
 // A preset pulse of an output: its type (0: no pulse, 2: it begins with on, 3: with off) and its time.
-#[derive(Drop)]
+#[derive(Clone, Copy)]
 pub struct Preset {
     pub kind: u8,
     pub time: HalfSeconds,
 }
 
 // A thermostat's settings. The flags are FSSKTTTT.
-#[derive(Drop)]
+#[derive(Clone, Copy)]
 pub struct Thermostat {
     pub flags: u8,
     pub tempx: i16,
@@ -47,14 +49,14 @@ pub struct Thermostat {
 }
 
 // A reading of the thermometer: the temperature, as tenths and as a float, or a fault.
-#[derive(Drop)]
+#[derive(Clone, Copy)]
 pub enum Reading {
     Valid(i16, f32),
     Fault,
 }
 
 // The notice of inputs: its format (61H: on, 0: off), its mask, and the signature of the request that switched it on.
-#[derive(Drop)]
+#[derive(Clone, Copy)]
 pub struct Notice {
     pub format: u8,
     pub mask: u16,
@@ -62,7 +64,7 @@ pub struct Notice {
 }
 
 // A port: its address, its speed code, and whether its next request may configure it.
-#[derive(Drop)]
+#[derive(Clone, Copy)]
 pub struct Port {
     pub address: u8,
     pub speed: u8,
@@ -70,7 +72,7 @@ pub struct Port {
 }
 
 // What only requests change, and a reset keeps: the inputs' modes and sampling number, presets, thermostats, the notice.
-#[derive(Drop)]
+#[derive(Clone, Copy)]
 pub struct Settings {
     pub modes: [u8; 16],
     pub sampling: u8,
@@ -80,7 +82,7 @@ pub struct Settings {
 }
 
 // The whole state. `last` is the last valid reading, a fault where there was none.
-#[derive(Drop)]
+#[derive(Clone, Copy)]
 pub struct Module {
     pub inputs: Inputs,
     pub outputs: [Output; 16],
@@ -92,7 +94,7 @@ pub struct Module {
 }
 
 // A group of registers, coils or inputs: the first, and how many.
-#[derive(Drop)]
+#[derive(Clone, Copy)]
 pub struct Group {
     pub first: u16,
     pub count: u16,

@@ -1,11 +1,13 @@
 // Lists of numbers: how many items a request has, the numbers of inputs and outputs, and those that a list read names.
+#![tactic(auto)]
+
 ghost use Rattle.std.specs.Prelude.{◌≡◌, length, get_or};
 ghost use Rattle.lists.specs.Tests.{all};
 ghost use Rattle.model.specs.Counters.{is_number, every_number, listed};
 ghost use Rattle.number_lists.specs.Items.{items_in, has_number, asks_all, list_refusal};
 
 // Which bits of a byte are its number: all, or, in a parameter of 60H, the low six.
-#[derive(Drop)]
+#[derive(Clone, Copy)]
 pub enum NumberBits {
     Whole,
     LowSix,

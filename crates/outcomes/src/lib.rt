@@ -1,4 +1,6 @@
 // What a request comes to for the whole module, on either port: a part's answer put back in its place.
+#![tactic(auto)]
+
 ghost use Rattle.std.specs.Prelude.{◌≡◌, []};
 ghost use Rattle.lists.specs.Data.{data_of};
 ghost use Rattle.model.specs.State.{with_counters, with_outputs, with_modes, with_sampling, with_presets, with_thermostats, with_notice, with_spinel, with_modbus};

@@ -1,4 +1,6 @@
 // What requests do to the outputs: set, pulsed, or held by a thermostat; each on no more of the state than it may change.
+#![tactic(auto)]
+
 ghost use Rattle.std.specs.Prelude.{◌≡◌, ◌-◌, get_or, set};
 ghost use mathlib.Core.List.{List, foldl};
 ghost use Rattle.lists.specs.Tests.{all};

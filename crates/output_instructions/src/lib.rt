@@ -1,4 +1,6 @@
 // What Spinel's instructions come to for the outputs and the presets, and the states that they read: decoded, judged, applied.
+#![tactic(auto)]
+
 ghost use Rattle.std.specs.Prelude.{◌≡◌, not, map};
 ghost use Rattle.model.specs.State.{with_outputs, with_presets};
 ghost use Rattle.model.specs.Samples.{input_states};

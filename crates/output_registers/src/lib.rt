@@ -1,4 +1,6 @@
 // What a write of registers 500 up or of coils comes to for the outputs: decoded, judged, applied.
+#![tactic(auto)]
+
 ghost use Rattle.std.specs.Prelude.{◌≡◌, not, ◌||◌, [], ◌∷◌, ◌/◌, eqb};
 ghost use Rattle.model.specs.State.{with_outputs};
 ghost use Rattle.model.specs.Refusals.{refuse, on_part, judged};

@@ -1,4 +1,6 @@
 // The outputs: sets, pulses counted in samples, remaining time.
+#![tactic(auto)]
+
 ghost use Rattle.std.specs.Prelude.{◌≡◌, map};
 ghost use Rattle.model.specs.State.{output};
 ghost use Rattle.model.specs.Times.{half_second_samples, second_samples};

@@ -1,4 +1,6 @@
 // What stands around a served request, on either port: the permission that it uses up, and the reply.
+#![tactic(auto)]
+
 ghost use Rattle.std.specs.Prelude.{◌≡◌};
 ghost use Rattle.model.specs.Wire.{used_up};
 ghost use Rattle.model.specs.Spinel.{spinel_wire};

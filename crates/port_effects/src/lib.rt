@@ -1,4 +1,6 @@
 // The notice's settings, and the ports' address, speed and permission.
+#![tactic(auto)]
+
 ghost use Rattle.std.specs.Prelude.{◌≡◌, cond, not, ◌&&◌, ℕ, eqb, length, get_or};
 ghost use mathlib.Core.List.{foldl};
 ghost use Rattle.lists.specs.Tests.{all};

@@ -1,4 +1,6 @@
 // What Spinel's instructions come to for the port itself, the notice and the reset: decoded, judged, applied.
+#![tactic(auto)]
+
 ghost use Rattle.std.specs.Prelude.{◌≡◌};
 ghost use Rattle.model.specs.State.{with_spinel, with_notice};
 ghost use Rattle.model.specs.Refusals.{on_part, reading, judged};

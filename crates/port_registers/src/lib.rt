@@ -1,4 +1,6 @@
 // What a write of registers 0 to 2 comes to for the Modbus port: decoded, judged, applied.
+#![tactic(auto)]
+
 ghost use Rattle.std.specs.Prelude.{◌≡◌};
 ghost use Rattle.model.specs.State.{with_modbus};
 ghost use Rattle.model.specs.Refusals.{on_part, judged};

@@ -1,4 +1,6 @@
 // What requests do to the presets, and what a preset that is started does to its output.
+#![tactic(auto)]
+
 ghost use Rattle.std.specs.Prelude.{◌≡◌};
 ghost use mathlib.Core.List.{List, [], ◌∷◌, foldl};
 ghost use Rattle.lists.specs.Tests.{all};

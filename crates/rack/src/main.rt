@@ -1,4 +1,6 @@
 // Reads a script of calls from standard input, plays it on a fresh module and prints each answer.
-fn main() {
-    player::play_input();
+#![tactic(auto)]
+
+fn main(rt: HostRuntime) {
+    player::play_input(&rt);
 }

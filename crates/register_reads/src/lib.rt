@@ -1,4 +1,6 @@
 // The register groups that Modbus reads (03 04), as words.
+#![tactic(auto)]
+
 ghost use Rattle.std.specs.Prelude.{◌≡◌, ◌+◌, ◌*◌, ◌≤◌, take, drop};
 ghost use mathlib.Core.List.{◌∷◌, map, flat_map};
 ghost use Rattle.lists.specs.Data.{data_of};

@@ -1,4 +1,6 @@
 // The framing of both ports' replies and exceptions (01, Frames), and the ACK or code that tells a refusal.
+#![tactic(auto)]
+
 ghost use Rattle.std.specs.Prelude.{◌≡◌, ◌+◌, ◌≤◌, min};
 ghost use Rattle.std.proofs.Math.Seq.{paste};
 ghost use Rattle.lists.specs.Data.{padded, data_of};

@@ -1,4 +1,6 @@
 // What decoded entries must be by themselves, whatever the state: one loop for every rule, and whether a number stands twice.
+#![tactic(auto)]
+
 ghost use Rattle.std.specs.Prelude.{◌≡◌, eqb, drop};
 ghost use Rattle.lists.specs.Tests.{all, any};
 ghost use Rattle.lists.specs.Entries.{entries_in};
@@ -10,7 +12,7 @@ ghost use Rattle.rules.specs.Rules.{keeps_rule};
 use lists::{Entries, Entry};
 
 // An input or output that there is; a mode of one; a 0; an address for register 1, else a speed.
-#[derive(Drop)]
+#[derive(Clone, Copy)]
 pub enum Rule {
     Number,
     Mode,

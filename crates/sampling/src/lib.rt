@@ -1,4 +1,6 @@
 // What a sample comes to: of the inputs, with the pulses and the notice; of the thermometer.
+#![tactic(auto)]
+
 ghost use Rattle.std.specs.Prelude.{◌≡◌, cond, ◌&&◌, []};
 ghost use Rattle.lists.specs.Data.{data_of};
 ghost use Rattle.model.specs.Notice.{noticed, notice_frame};

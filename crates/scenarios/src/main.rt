@@ -1,4 +1,6 @@
 // The rack on a script of calls beyond the sources' examples: both ports, every refusal, permissions, resets, pulses, notices, thermostats.
-fn main() {
-    player::play_input();
+#![tactic(auto)]
+
+fn main(rt: HostRuntime) {
+    player::play_input(&rt);
 }

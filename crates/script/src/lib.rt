@@ -1,4 +1,6 @@
 // One line of a script as a call.
+#![tactic(auto)]
+
 ghost use Rattle.std.specs.Prelude.{◌≡◌};
 ghost use Rattle.script.specs.Words.{blank, solid, other, plain, leading, uncr, body, parts, over, used, first_word, rest_of, same};
 ghost use Rattle.script.specs.Lines.{of_kind, wrong, sampled, sample, toggle, good_tenths, tenths_of, temperature, fault_word, framed, keyword, called, parsed_line};

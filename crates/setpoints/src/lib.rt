@@ -1,4 +1,6 @@
 // Setpoints: what either port's bytes say of one thermostat, decoded and held by value.
+#![tactic(auto)]
+
 ghost use Rattle.std.specs.Prelude.{◌≡◌, [], ◌∷◌, map, length, get_or, take};
 ghost use Rattle.lists.specs.Chunks.{chunks};
 ghost use Rattle.model.specs.Temperature.{group_thermostat};
@@ -7,14 +9,14 @@ ghost use Rattle.setpoints.specs.Setpoints.{no_setpoint, group_setpoint, registe
 use model::{Seconds, Thermostat};
 
 // What one output's thermostat is to be: the output's number, and the settings.
-#[derive(Drop)]
+#[derive(Clone, Copy)]
 pub struct Setpoint {
     pub number: u8,
     pub thermostat: Thermostat,
 }
 
 // At most twelve of them, by value: `len` says how many count.
-#[derive(Drop)]
+#[derive(Clone, Copy)]
 pub struct Setpoints {
     pub items: [Setpoint; 12],
     pub len: usize,

@@ -1,4 +1,6 @@
 // The Spinel port: the instruction byte picks what serves a frame that passes its checks. `handle` is pure.
+#![tactic(auto)]
+
 ghost use Rattle.std.specs.Prelude.{◌≡◌, ◌≤◌, length};
 ghost use Rattle.model.specs.Refusals.{judged};
 ghost use Rattle.model.specs.Wire.{frame_acted, frame_handled};

@@ -1,4 +1,6 @@
 // What Spinel shows of one input or output, after the reply so far: its pulse, preset, mode or thermostat.
+#![tactic(auto)]
+
 ghost use Rattle.std.specs.Prelude.{◌≡◌, cond, ◌+◌, ◌-◌, ◌<◌, get_or};
 ghost use Rattle.lists.specs.Data.{extended};
 ghost use Rattle.model.specs.State.{fresh_output};

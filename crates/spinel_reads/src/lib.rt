@@ -1,4 +1,6 @@
 // What requests read of numbers listed (1BH 33H 36H 38H 6BH), by one loop, and all states (30H 31H).
+#![tactic(auto)]
+
 ghost use Rattle.std.specs.Prelude.{◌≡◌};
 ghost use mathlib.Core.List.{[], flat_map};
 ghost use Rattle.lists.specs.Data.{data_of, extended};
@@ -16,7 +18,7 @@ use model::{HalfSeconds, Output, Preset, Seconds, Thermostat};
 use number_lists::NumberBits;
 
 // What a list read shows: inputs' modes (6BH), outputs' states and pulses (33H), presets (36H), outputs' modes (38H), groups of thermostats (1BH).
-#[derive(Drop)]
+#[derive(Clone, Copy)]
 enum Shown {
     InputModes,
     Pulses,
@@ -26,7 +28,7 @@ enum Shown {
 }
 
 // What they are shown of; a read fills in no more than it shows.
-#[derive(Drop)]
+#[derive(Clone, Copy)]
 struct Source {
     modes: [u8; 16],
     outputs: [Output; 16],

@@ -1,4 +1,6 @@
 // The states that a module starts from: fresh, and after a reset.
+#![tactic(auto)]
+
 ghost use Rattle.std.specs.Prelude.{◌≡◌};
 ghost use Rattle.model.specs.State.{fresh_module};
 ghost use Rattle.model.specs.Counters.{runs_ended, cleared_counters, reset};

@@ -1,4 +1,6 @@
 // The state of a module whose counters had 16 bits, taken over by one whose counters have 32.
+#![tactic(auto)]
+
 ghost use Rattle.std.specs.Prelude.{◌≡◌};
 ghost use Rattle.takeover.specs.TakenOver.{inputs_over, settings_over, port_over, taken_over};
 ghost use Rattle.takeover.specs.Across.{CyclesConservedAcross};

@@ -1,4 +1,6 @@
 // The line of an answer, as text.
+#![tactic(auto)]
+
 ghost use Rattle.std.specs.Prelude.{◌≡◌, min, take};
 ghost use Rattle.digits.specs.Writing.{decimal_text};
 ghost use Rattle.texts.specs.Texts.{text_of, answer_text};

@@ -1,4 +1,6 @@
 // One thermostat, and the thermometer: a reading from mark and tenths, what a thermostat does with a valid one, ERR at a fault.
+#![tactic(auto)]
+
 ghost use Rattle.std.specs.Prelude.{◌≡◌, ◌&&◌};
 ghost use Rattle.std.specs.Int.Signed.{lt_z, le_z};
 ghost use Rattle.model.specs.Temperature.{reading_of, levelled, crossed, crossing, heated, failed};

@@ -1,4 +1,6 @@
 // What setpoints of either port come to, judged and put in place; and the reading that 51H shows.
+#![tactic(auto)]
+
 ghost use Rattle.std.specs.Prelude.{◌≡◌, cond, not};
 ghost use mathlib.Core.List.{foldl};
 ghost use Rattle.lists.specs.Data.{data_of};

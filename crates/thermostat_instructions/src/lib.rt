@@ -1,4 +1,6 @@
 // What Spinel's instructions come to for the thermostats, and what they read of the temperature: decoded, judged, applied.
+#![tactic(auto)]
+
 ghost use Rattle.std.specs.Prelude.{◌≡◌};
 ghost use Rattle.model.specs.State.{with_thermostats};
 ghost use Rattle.model.specs.Refusals.{on_part, reading, judged};

@@ -1,4 +1,6 @@
 // What a write of registers 600 up comes to for the thermostats: decoded, judged, applied.
+#![tactic(auto)]
+
 ghost use Rattle.std.specs.Prelude.{◌≡◌};
 ghost use Rattle.model.specs.State.{with_thermostats};
 ghost use Rattle.model.specs.Refusals.{on_part, judged};

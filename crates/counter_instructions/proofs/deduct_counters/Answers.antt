@@ -1,0 +1,13 @@
+-- `counter_instructions::deduct_counters` meets its contract. Assumes nothing.
+use borrow.Author.Rules.{rules}
+use borrow.Author.Tests.{eq-eqb, ne_eqb}
+use Rattle.model.specs.Counters.{deduct_counters}
+use Rattle.counter_instructions.proofs.deduct_counters.Goals as goal
+
+pub returns-then-d-eq1 : goal.returns-then-d-eq1
+unfolding deduct_counters
+returns-then-d-eq1 c = rw (c.clear_all.ensures, eq-eqb _ _ c.if-d-eq1.true)
+
+pub returns : goal.returns
+unfolding deduct_counters
+returns c = rw (c.deduct_listed.ensures, ne_eqb _ _ c.if-d-eq1.false)

@@ -1,0 +1,8 @@
+-- `decoders::pair_at` meets its contract. Assumes nothing.
+use native.Mathlib.Omega.{arith}
+use Rattle.decoders.proofs.Places.{pair_place}
+use Rattle.decoders.proofs.pair_at.Goals as goal
+
+pub returns : goal.returns
+returns c =
+    rw (c.value-value.ensures, c.at-2.ensures, c.wide-number.ensures, c.at.ensures) (pair_place c.args.d.now c.args.j c.requires)

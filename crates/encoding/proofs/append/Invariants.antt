@@ -1,0 +1,19 @@
+-- `encoding::append` meets its contract. The loop's invariant: the bytes of `b` still to pass, on what stands now, come to all of them on `d`. Assumes nothing.
+use Prim.Native.Nat.{◌≤◌, ◌-◌}
+use mathlib.Core.Path.{◌≡◌, ◌∙◌}
+use mathlib.Core.Logic.{⊎_elim}
+use native.Mathlib.Omega.{arith}
+use native.Mathlib.Nat.{min-le_right}
+use borrow.Author.Rules.{rules}
+use borrow.Author.Tests.{lt-ltb, le-ltb}
+use lib.ListN.{length, take, drop, get_or}
+use Rattle.lists.specs.Data.{extended, pushed, bytes_in}
+use Rattle.lists.proofs.DataLaws.{field_length, extend_turn, rest_none}
+use Rattle.lists.proofs.Parts.{take_limited}
+use Rattle.encoding.proofs.append.Given as goal
+
+abbrev pub invariant-loop-i : goal.invariant-loop-i
+invariant-loop-i l = (l.i ≤ l.n) × (l.n ≤ 256) × (extended l.out (drop l.i (take l.n l.b.bytes)) ≡ extended l.initial.out (bytes_in l.b))
+
+abbrev pub decreases-loop-i : goal.decreases-loop-i
+decreases-loop-i l = l.n - l.i

@@ -1,0 +1,33 @@
+-- `heating::heat_outputs` meets its contract. Assumes nothing.
+use Prim.Native.Nat.{◌-◌, ◌≤◌, ◌<◌}
+use mathlib.Core.Path.{◌≡◌, sym, ◌∙◌}
+use native.Mathlib.Omega.{arith}
+use borrow.Author.Rules.{rules}
+use lib.ListN.{length, get_or}
+use Rattle.lists.specs.Mapi.{done}
+use Rattle.lists.proofs.Done.{done_none, done_turn, done_all}
+use Rattle.model.specs.State.{fresh_output, fresh_thermostat}
+use mir.Syntax.{w16}
+use mir.Val.{to_z, of_z}
+use mir.Facts.{to_z-of_z}
+use Rattle.model.specs.Temperature.{heated}
+use Rattle.heating.proofs.heat_outputs.Goals as goal
+use Rattle.heating.proofs.heat_outputs.Goals.{Start}
+
+long : (c : Start) → length c.args.os ≡ 16
+long c = search rules
+
+pub loop-i-init : goal.loop-i-init
+loop-i-init c = (omega arith, sym (done_none _ _))
+
+pub loop-i-preserved : goal.loop-i-preserved
+loop-i-preserved c =
+    let a = c.args.os in
+    let h : c.loop-i.i < length a = rw (long (goal.at.loop-i-preserved c).Start) (omega arith) in
+    (omega arith, rw (c.heat.ensures, c.loop-i.invariant.1) (done_turn _ _ a fresh_output h))
+
+pub returns : goal.returns
+returns c =
+    let e : c.loop-i.i ≡ 16 = omega arith in
+    let f : to_z w16 (of_z w16 c.args.now) ≡ c.args.now = to_z-of_z c.ranges.now in
+    rw f at c.loop-i.invariant.1 ∙ rw e (done_all _ 16 c.args.os (long (goal.at.returns c).Start))

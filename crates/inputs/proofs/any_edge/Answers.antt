@@ -1,0 +1,26 @@
+-- `inputs::any_edge` meets its contract. Assumes nothing.
+use borrow.Author.Rules.{rules}
+use native.Mathlib.Omega.{arith}
+use Prim.Native.Nat.{◌-◌, ◌≤◌}
+use mathlib.Core.Bool.{false}
+use mathlib.Core.Path.{◌≡◌, sym, ◌∙◌}
+use lib.ListN.{length, get_or}
+use Rattle.lists.specs.Tests.{some_below}
+use Rattle.lists.proofs.Somes.{some_none, some_turn, some_of}
+use Rattle.inputs.proofs.any_edge.Goals as goal
+use Rattle.inputs.proofs.any_edge.Goals.{Start}
+
+long : (c : Start) → length c.args.edged ≡ 16
+long c = search rules
+
+pub loop-i-init : goal.loop-i-init
+loop-i-init c = (omega arith, some_none _)
+
+pub loop-i-preserved : goal.loop-i-preserved
+loop-i-preserved c =
+    (omega arith, rw c.loop-i.invariant.1 (some_turn (λ k. get_or c.args.edged k false) c.loop-i.i))
+
+pub returns : goal.returns
+returns c =
+    let e : c.loop-i.i ≡ 16 = omega arith in
+    c.loop-i.invariant.1 ∙ rw e (rw (long (goal.at.returns c).Start) at (sym (some_of c.args.edged)))

@@ -1,0 +1,13 @@
+-- `number_lists::is_all` meets its contract. Assumes nothing.
+use borrow.Author.Rules.{rules}
+use borrow.Author.Tests.{eq-eqb, ne_eqb}
+use Rattle.number_lists.specs.Items.{asks_all}
+use Rattle.number_lists.proofs.is_all.Goals as goal
+
+pub returns-then-d-eq1 : goal.returns-then-d-eq1
+unfolding asks_all
+returns-then-d-eq1 c = rw (eq-eqb _ _ c.if-d-eq1.true)
+
+pub returns : goal.returns
+unfolding asks_all
+returns c = rw (ne_eqb _ _ c.if-d-eq1.false)

@@ -1,0 +1,22 @@
+-- `number_lists::items_of` meets its contract; of items of no bytes there are none. Assumes nothing.
+use borrow.Author.Rules.{rules}
+use Prim.Native.Nat.{◌%◌}
+use lib.Dec.{eqb}
+use native.Mathlib.Nat.{div-zero}
+use mathlib.Core.Path.{◌≡◌, refl}
+use mathlib.Core.Bool.{Bool, true, false, ◌&&◌}
+use Rattle.lists.specs.Tests.{within}
+use Rattle.number_lists.specs.Items.{items_in}
+use Rattle.number_lists.proofs.items_of.Goals as goal
+
+never : (a : Bool) → false ≡ (a && false)
+never true = refl
+never false = refl
+
+pub returns-then-w-eq0 : goal.returns-then-w-eq0
+unfolding items_in within
+returns-then-w-eq0 c = rw (c.if-w-eq0.true, div-zero) (never (eqb (c.args.n % 0) 0))
+
+pub returns : goal.returns
+unfolding items_in within
+returns c = refl

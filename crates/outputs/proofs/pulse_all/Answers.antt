@@ -1,0 +1,29 @@
+-- `outputs::pulse_all` meets its contract. Assumes nothing.
+use Prim.Native.Nat.{◌-◌, ◌≤◌, ◌<◌}
+use mathlib.Core.Path.{◌≡◌, sym, ◌∙◌}
+use lib.ListN.{length}
+use Rattle.lists.specs.Mapi.{done}
+use Rattle.lists.proofs.Done.{done_none, done_turn, done_map}
+use Rattle.model.specs.State.{fresh_output}
+use Rattle.model.specs.Outputs.{pulsed}
+use borrow.Author.Rules.{rules}
+use native.Mathlib.Omega.{arith}
+use Rattle.outputs.proofs.pulse_all.Goals as goal
+use Rattle.outputs.proofs.pulse_all.Goals.{Start}
+
+long : (c : Start) → length c.args.a ≡ 16
+long c = search rules
+
+pub loop-i-init : goal.loop-i-init
+loop-i-init c = (omega arith, sym (done_none _ _))
+
+pub loop-i-preserved : goal.loop-i-preserved
+loop-i-preserved c =
+    let a = c.args.a in
+    let h : c.loop-i.i < length a = rw (long (goal.at.loop-i-preserved c).Start) (omega arith) in
+    (omega arith, rw (c.pulse.ensures, c.loop-i.invariant.1) (done_turn _ _ a fresh_output h))
+
+pub returns : goal.returns
+returns c =
+    let e : c.loop-i.i ≡ 16 = omega arith in
+    c.loop-i.invariant.1 ∙ rw e (done_map pulsed 16 c.args.a (long (goal.at.returns c).Start))

@@ -1,0 +1,14 @@
+-- `player::play_samples` meets its contract. The loop's invariant: the samples left, on the state now, come to all of them. Assumes nothing.
+use native.Mathlib.Omega.{arith}
+use mathlib.Core.Path.{◌≡◌, refl, ◌∙◌}
+use lib.ListN.{replicate}
+use Rattle.model.specs.Call.{call, sample}
+use Rattle.model.specs.Calls.{run}
+use Rattle.player.proofs.Answers.{samples_go}
+use Rattle.player.proofs.play_samples.Given as goal
+
+abbrev pub invariant-loop-left : goal.invariant-loop-left
+invariant-loop-left l = run l.initial.left (replicate l.q (call 256 (sample l.rt))) ≡ run l.times (replicate l.bits (call 256 (sample l.rt)))
+
+abbrev pub decreases-loop-left : goal.decreases-loop-left
+decreases-loop-left l = l.q

@@ -1,0 +1,15 @@
+-- `player::sample_text` meets its contract. Assumes nothing.
+use borrow.Author.Rules.{rules}
+use native.Mathlib.Omega.{arith}
+use lib.ListN.{length-take}
+use Rattle.digits.specs.Writing.{padded}
+use Rattle.player.proofs.Answers.{reply_fits, notice_printed, notice_none}
+use Rattle.player.proofs.sample_text.Goals as goal
+
+pub returns-then-len-eq0 : goal.returns-then-len-eq0
+unfolding padded
+returns-then-len-eq0 c = notice_none c.sample-a.ensures c.if-len-eq0.true
+
+pub returns : goal.returns
+returns c =
+    notice_printed c.sample-a.ensures (search rules) c.if-len-eq0.false c.answer_text-text.ensures

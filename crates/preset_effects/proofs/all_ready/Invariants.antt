@@ -1,0 +1,16 @@
+-- `preset_effects::all_ready` meets its contract. The loop's invariant: the bytes left decide. Assumes nothing.
+use Prim.Native.Nat.{◌≤◌, ◌-◌}
+use native.Mathlib.Omega.{arith}
+use mathlib.Core.Path.{◌≡◌, refl, sym, ◌∙◌}
+use lib.ListN.{length, drop, drop_of_length-le}
+use Rattle.lists.specs.Tests.{all}
+use Rattle.lists.proofs.Choices.{all_goes, all_stops, all_ends}
+use Rattle.model.specs.Outputs.{preset_ready}
+use Rattle.lists.proofs.ChunkLaws.{rest_first}
+use Rattle.preset_effects.proofs.all_ready.Given as goal
+
+abbrev pub invariant-loop-i : goal.invariant-loop-i
+invariant-loop-i l = (l.i ≤ length l.d) × (all (preset_ready l.ps) (drop l.i l.d) ≡ all (preset_ready l.ps) l.d)
+
+abbrev pub decreases-loop-i : goal.decreases-loop-i
+decreases-loop-i l = length l.d - l.i

@@ -1,0 +1,16 @@
+-- `script::blanks` meets its contract. The loop's invariant: those passed and those to come are all. Assumes nothing.
+use borrow.Author.Rules.{rules}
+use native.Mathlib.Omega.{arith}
+use Prim.Native.Nat.{◌≤◌, ◌-◌, ◌+◌}
+use mathlib.Core.Path.{◌≡◌, sym, ◌∙◌}
+use lib.ListN.{length, drop}
+use borrow.Author.Tests.{not-true, not-false}
+use Rattle.script.specs.Words.{blank, leading}
+use Rattle.script.proofs.Leading.{lead_goes, lead_stops, lead_ends}
+use Rattle.script.proofs.blanks.Given as goal
+
+abbrev pub invariant-loop-i : goal.invariant-loop-i
+invariant-loop-i l = (l.i ≤ length l.s) × (l.i + leading blank (drop l.i l.s) ≡ leading blank l.s)
+
+abbrev pub decreases-loop-i : goal.decreases-loop-i
+decreases-loop-i l = length l.s - l.i

@@ -1,0 +1,26 @@
+-- `script::first_word` meets its contract. Assumes nothing.
+use native.Mathlib.Omega.{arith}
+use borrow.Author.Rules.{rules}
+use Rattle.script.specs.Words.{blank}
+use Rattle.script.proofs.Leading.{leading_le}
+use Rattle.script.proofs.Firsts.{used_law, used_le, first_law}
+use Rattle.script.proofs.first_word.Goals as goal
+
+pub slice_bounds-solids-count : goal.slice_bounds-solids-count
+slice_bounds-solids-count c = rw c.blanks-a.ensures (leading_le blank _)
+
+pub overflow_add-e : goal.overflow_add-e
+overflow_add-e c =
+    let s = c.args.s.now in
+    omega (arith, used_law s _ _ c.blanks-a.ensures c.solids-n.ensures, used_le s)
+
+pub returns : goal.returns
+returns c = first_law _ _ _ c.blanks-a.ensures c.solids-n.ensures
+
+pub slice_bounds-solids-start : goal.slice_bounds-solids-start
+slice_bounds-solids-start c = rw c.blanks-a.ensures (leading_le blank _)
+
+pub slice_bounds-result-end : goal.slice_bounds-result-end
+slice_bounds-result-end c =
+    let s = c.args.s.now in
+    omega (arith, used_law s _ _ c.blanks-a.ensures c.solids-n.ensures, used_le s)

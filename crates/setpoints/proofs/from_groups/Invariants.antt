@@ -1,0 +1,23 @@
+-- `setpoints::from_groups` meets its contract. The loop's invariant: the groups decoded so far, and the rest as it was. Assumes nothing.
+use native.Mathlib.Omega.{arith}
+use Prim.Native.Nat.{ℕ, ◌+◌, ◌*◌, ◌-◌, ◌<◌, ◌≤◌}
+use mathlib.Core.Path.{◌≡◌, refl, ◌∙◌}
+use mathlib.Core.List.{List, ◌++◌, map}
+use lib.ListN.{length, take, drop, replicate}
+use lib.Seq.{take-length}
+use Rattle.lists.specs.Chunks.{chunks}
+use Rattle.lists.proofs.ChunkLaws.{rest_whole}
+use Rattle.lists.proofs.DataLaws.{over_turn}
+use Rattle.setpoints.specs.declared.Setpoint.{Setpoint}
+use Rattle.setpoints.specs.Setpoints.{no_setpoint, group_setpoint, setpoints_of}
+use Rattle.setpoints.proofs.Decoded.{twelve_length, twelve_counted, group_place}
+use Rattle.setpoints.proofs.from_groups.Given as goal
+
+abbrev twelve : List ℕ → List Setpoint
+twelve d = take 12 (map group_setpoint (chunks 8 d))
+
+abbrev pub invariant-loop-j : goal.invariant-loop-j
+invariant-loop-j l = (l.n ≡ length (twelve l.d)) × (l.j ≤ l.n) × (l.items ≡ take l.j (twelve l.d) ++ drop l.j (replicate 12 no_setpoint))
+
+abbrev pub decreases-loop-j : goal.decreases-loop-j
+decreases-loop-j l = l.n - l.j

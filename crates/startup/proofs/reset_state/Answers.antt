@@ -1,0 +1,8 @@
+-- `startup::reset_state` meets its contract. Assumes nothing.
+use Rattle.model.specs.Counters.{reset}
+use Rattle.startup.proofs.reset_state.Goals as goal
+
+pub returns : goal.returns
+unfolding reset
+returns c =
+    rw (c.permitted-modbus.ensures, c.permitted-spinel.ensures, c.reset_inputs-inputs.ensures)

@@ -1,0 +1,14 @@
+-- `takeover::widen` meets its contract. The loop's invariant: the counters before `i`, then zeros. Assumes nothing.
+use borrow.Author.Rules.{rules}
+use native.Mathlib.Omega.{arith}
+use Prim.Native.Nat.{◌-◌}
+use mathlib.Core.Path.{◌≡◌, refl}
+use lib.ListN.{length}
+use Rattle.lists.proofs.DataLaws.{Made, made_turn, made_all}
+use Rattle.takeover.proofs.widen.Given as goal
+
+abbrev pub invariant-loop-i : goal.invariant-loop-i
+invariant-loop-i l = Made 0 l.cs l.wide l.i
+
+abbrev pub decreases-loop-i : goal.decreases-loop-i
+decreases-loop-i l = 16 - l.i
