@@ -8,4 +8,6 @@ unfolding play_many buffer_many
 loop-i-init c = (omega arith, refl, refl, refl)
 
 pub loop-i-preserved : goal.loop-i-preserved
-loop-i-preserved c = c.loop-i.invariant.1
+unfolding play_many buffer_many
+loop-i-preserved c =
+    (omega arith, search rules, rw (c.play_one-t.ensures.value, c.loop-i.invariant.1, c.loop-i.invariant.2, add-one), rw (c.play_one-t.ensures.reply_after, c.loop-i.invariant.1, c.loop-i.invariant.2, c.loop-i.invariant.3, add-one))

@@ -12,8 +12,8 @@ use Rattle.player.proofs.Lines.{line_fits, line_goes, line_last, lines_over}
 use Rattle.player.proofs.play.Given as goal
 
 abbrev pub invariant-loop-at : goal.invariant-loop-at
-invariant-loop-at l =
-    (l.number ≤ length l.rt) × (l.m ≤ l.number) × (run l.initial.at (lines_calls (lines [] (drop l.number l.rt))) ≡ run fresh_module (script_calls l.rt))
+invariant-loop-at g l =
+    (l.at ≤ length l.input) × (l.number ≤ l.at) × (run l.m (lines_calls (lines [] (drop l.at l.input))) ≡ run fresh_module (script_calls l.input))
 
 abbrev pub decreases-loop-at : goal.decreases-loop-at
-decreases-loop-at l = length l.rt - l.number
+decreases-loop-at g l = length l.input - l.at

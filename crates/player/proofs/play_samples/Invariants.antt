@@ -8,7 +8,7 @@ use Rattle.player.proofs.Answers.{samples_go}
 use Rattle.player.proofs.play_samples.Given as goal
 
 abbrev pub invariant-loop-left : goal.invariant-loop-left
-invariant-loop-left l = run l.initial.left (replicate l.q (call 256 (sample l.rt))) ≡ run l.times (replicate l.bits (call 256 (sample l.rt)))
+invariant-loop-left g l = run l.q (replicate l.left (call 256 (sample l.bits))) ≡ run l.initial.q (replicate l.times (call 256 (sample l.bits)))
 
 abbrev pub decreases-loop-left : goal.decreases-loop-left
-decreases-loop-left l = l.q
+decreases-loop-left g l = l.left

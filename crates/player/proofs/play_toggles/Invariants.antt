@@ -7,7 +7,7 @@ use Rattle.player.proofs.Answers.{turns_go}
 use Rattle.player.proofs.play_toggles.Given as goal
 
 abbrev pub invariant-loop-left : goal.invariant-loop-left
-invariant-loop-left l = run l.initial.left (in_turn l.rt l.bits l.q) ≡ run l.times (in_turn l.rt l.bits l.second)
+invariant-loop-left g l = run l.q (in_turn l.bits l.second l.left) ≡ run l.initial.q (in_turn l.bits l.second l.times)
 
 abbrev pub decreases-loop-left : goal.decreases-loop-left
-decreases-loop-left l = l.q
+decreases-loop-left g l = l.left
