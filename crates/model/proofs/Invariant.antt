@@ -1,12 +1,11 @@
 -- What the module's inputs and the tally agree in, for one input; from where they agree, and after a sample. Assumes nothing.
 use Prim.Native.Nat.{ℕ, suc, ◌+◌, ◌-◌, ◌*◌, ◌/◌, ◌%◌, ◌^◌, ◌≤◌, ◌<◌}
 use native.Mathlib.Omega.{arith}
-use mathlib.Core.Path.{◌≡◌, refl, ap, subst, ◌∙◌}
+use mathlib.Core.Path.{◌≡◌, refl, ap, ◌∙◌}
 use mathlib.Core.Bool.{Bool, true, false, cond}
 use lib.ListN.{length, get_or, replicate, get_or-replicate}
 use Rattle.lists.specs.Numbers.{bit_at}
 use Rattle.lists.proofs.Done.{get_d_mapi, length-mapi}
-use mathlib.Core.List.{List}
 use Rattle.model.specs.declared.Module.{Module}
 use Rattle.model.specs.declared.Line.{Line}
 use Rattle.model.specs.State.{fresh_line, fresh_module}

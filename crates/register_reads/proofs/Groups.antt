@@ -1,5 +1,5 @@
 -- Words of a group in a reply, and a group whose words are the first of two lists. Assumes nothing.
-use Prim.Native.Nat.{ℕ, ◌+◌, ◌-◌, ◌*◌, ◌%◌, ◌≤◌}
+use Prim.Native.Nat.{ℕ, ◌-◌, ◌*◌, ◌%◌, ◌≤◌}
 use native.Mathlib.Omega.{arith}
 use native.Mathlib.Nat.{le_of_eq}
 use mathlib.Core.Path.{◌≡◌, refl, ap, ◌∙◌}

@@ -1,5 +1,5 @@
 -- Words in an array of sixteen, as the code holds them.
-use Rattle.std.specs.Prelude.{ℕ, ◌+◌, List, ◌++◌, replicate}
+use Rattle.std.specs.Prelude.{ℕ, List, ◌++◌, replicate}
 use Rattle.model.specs.declared.Thermostat.{Thermostat}
 use Rattle.model.specs.declared.Reading.{Reading}
 use Rattle.model.specs.Temperature.{reading_words}

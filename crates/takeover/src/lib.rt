@@ -15,7 +15,7 @@ pub struct InputsBefore {
 }
 
 // A port. This type and the next are spelt out, and not the model's: a setting that the model gets later is none of theirs.
-#[derive(Drop)]
+#[derive(Clone, Copy)]
 pub struct PortBefore {
     pub address: u8,
     pub speed: u8,

@@ -1,8 +1,5 @@
 -- `bit_reads::bits_part` meets its contract: the part is no larger than the number. Assumes nothing.
-use native.Mathlib.Omega.{arith}
-use lib.Pow.{pow_pos}
 use Rattle.bit_reads.specs.Answers.{part_of}
-use Rattle.lists.proofs.NumberLaws.{part_small}
 use Rattle.bit_reads.proofs.bits_part.Goals as goal
 
 pub returns : goal.returns

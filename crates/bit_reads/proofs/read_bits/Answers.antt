@@ -1,9 +1,6 @@
 -- `bit_reads::read_bits` meets its contract: outside the sixteen, or the bits. Assumes nothing.
-use native.Mathlib.Omega.{arith}
 use mathlib.Core.Path.{sym, ◌∙◌}
 use Rattle.model.specs.Refusals.{judged}
-use Rattle.model.specs.Registers.{bit_group}
-use Rattle.groups.proofs.Inside.{inside}
 use Rattle.bit_reads.specs.Answers.{bits_told}
 use Rattle.bit_reads.proofs.read_bits.Goals as goal
 

@@ -1,5 +1,4 @@
 -- `bit_reads::show_bits` meets its contract: no byte, one or two. Assumes nothing.
-use borrow.Author.Rules.{rules}
 use native.Mathlib.Omega.{arith}
 use Prim.Native.Nat.{◌+◌, ◌/◌, ◌<◌}
 use mathlib.Core.Path.{◌≡◌}

@@ -1,6 +1,5 @@
 -- `checksum::byte_sum` meets its contract. The loop's invariant: the sum so far and the bytes still to pass come to the sum of all. Assumes nothing.
-use Rattle.std.proofs.Common.{◌≡◌, ◌+◌, ◌-◌, ◌%◌, ◌<◌, ◌≤◌, length, drop, arith, rules}
-use Rattle.model.specs.Frames.{total}
+use Rattle.std.proofs.Common.{arith}
 use Rattle.checksum.proofs.Laws.{total_next, total_end}
 use Rattle.checksum.proofs.byte_sum.Goals as goal
 

@@ -1,7 +1,6 @@
 -- `checksum::byte_sum` meets its contract. The loop's invariant: the sum so far and the bytes still to pass come to the sum of all. Assumes nothing.
-use Rattle.std.proofs.Common.{◌≡◌, ◌+◌, ◌-◌, ◌%◌, ◌<◌, ◌≤◌, length, drop, arith, rules}
+use Rattle.std.proofs.Common.{◌≡◌, ◌+◌, ◌-◌, ◌%◌, ◌<◌, ◌≤◌, length, drop}
 use Rattle.model.specs.Frames.{total}
-use Rattle.checksum.proofs.Laws.{total_next, total_end}
 use Rattle.checksum.proofs.byte_sum.Given as goal
 
 abbrev pub invariant-loop-i : goal.invariant-loop-i

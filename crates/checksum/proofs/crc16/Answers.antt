@@ -1,8 +1,6 @@
 -- `checksum::crc16` meets its contract. The loop's invariant: the bytes still to pass, from what stands now, come to the CRC of all. Assumes nothing.
-use Rattle.std.proofs.Common.{◌≡◌, ◌-◌, ◌≤◌, length, drop, refl, arith, rules}
-use mathlib.Core.List.{foldl}
-use Rattle.model.specs.Frames.{crc_byte, crc_of}
-use Rattle.lists.proofs.Loops.{each_goes, each_ends}
+use Rattle.std.proofs.Common.{refl, arith}
+use Rattle.model.specs.Frames.{crc_of}
 use Rattle.checksum.proofs.crc16.Goals as goal
 
 pub loop-i-init : goal.loop-i-init

@@ -1,8 +1,7 @@
 -- `checksum::crc16` meets its contract. The loop's invariant: the bytes still to pass, from what stands now, come to the CRC of all. Assumes nothing.
-use Rattle.std.proofs.Common.{◌≡◌, ◌-◌, ◌≤◌, length, drop, refl, arith, rules}
+use Rattle.std.proofs.Common.{◌≡◌, ◌-◌, ◌≤◌, length, drop}
 use mathlib.Core.List.{foldl}
 use Rattle.model.specs.Frames.{crc_byte, crc_of}
-use Rattle.lists.proofs.Loops.{each_goes, each_ends}
 use Rattle.checksum.proofs.crc16.Given as goal
 
 abbrev pub invariant-loop-i : goal.invariant-loop-i

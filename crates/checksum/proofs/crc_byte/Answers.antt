@@ -1,5 +1,5 @@
 -- `checksum::crc_byte` meets its contract. The loop's invariant: the bits still to pass, on what stands now, come to the byte's CRC. Assumes nothing.
-use Rattle.std.proofs.Common.{◌≡◌, ◌+◌, ◌-◌, ◌≤◌, sym, refl, ap, ◌∙◌, arith, rules}
+use Rattle.std.proofs.Common.{◌+◌, ◌-◌, sym, refl, ap, ◌∙◌, arith}
 use Rattle.model.specs.Frames.{crc_bits, crc_byte}
 use Rattle.checksum.proofs.Laws.{bits_next, bits_end}
 use Rattle.checksum.proofs.crc_byte.Goals as goal

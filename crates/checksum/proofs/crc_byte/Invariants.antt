@@ -1,7 +1,6 @@
 -- `checksum::crc_byte` meets its contract. The loop's invariant: the bits still to pass, on what stands now, come to the byte's CRC. Assumes nothing.
-use Rattle.std.proofs.Common.{◌≡◌, ◌+◌, ◌-◌, ◌≤◌, sym, refl, ap, ◌∙◌, arith, rules}
+use Rattle.std.proofs.Common.{◌≡◌, ◌-◌, ◌≤◌}
 use Rattle.model.specs.Frames.{crc_bits, crc_byte}
-use Rattle.checksum.proofs.Laws.{bits_next, bits_end}
 use Rattle.checksum.proofs.crc_byte.Given as goal
 
 abbrev pub invariant-loop-i : goal.invariant-loop-i

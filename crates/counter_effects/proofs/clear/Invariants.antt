@@ -1,11 +1,9 @@
 -- `counter_effects::clear` meets its contract. The loop's invariant: the numbers left, on the copy so far, come to the whole. Assumes nothing.
-use native.Mathlib.Omega.{arith}
 use Prim.Native.Nat.{◌-◌}
-use mathlib.Core.Path.{◌≡◌, refl, ◌∙◌}
+use mathlib.Core.Path.{◌≡◌}
 use mathlib.Core.List.{foldl}
 use lib.ListN.{drop}
-use Rattle.lists.specs.Entries.{entry, entries_in}
-use Rattle.lists.proofs.Loops.{each_goes, each_ends}
+use Rattle.lists.specs.Entries.{entries_in}
 use Rattle.model.specs.Registers.{clear_one}
 use Rattle.counter_effects.proofs.clear.Given as goal
 

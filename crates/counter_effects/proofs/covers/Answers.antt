@@ -1,11 +1,6 @@
 -- `counter_effects::covers` meets its contract. The loop's invariant: the deductions left decide as the whole does. Assumes nothing.
-use native.Mathlib.Omega.{arith}
-use Prim.Native.Nat.{◌-◌}
-use mathlib.Core.Path.{◌≡◌, refl, sym, ◌∙◌}
-use lib.ListN.{drop}
-use borrow.Author.Tests.{not-true, not-false}
-use Rattle.lists.specs.Tests.{all}
-use Rattle.lists.specs.Entries.{entry, entries_in}
+use mathlib.Core.Path.{sym, ◌∙◌}
+use Rattle.lists.specs.Entries.{entry}
 use Rattle.lists.proofs.Loops.{test_goes, test_stops, test_ends}
 use Rattle.model.specs.Counters.{deductible}
 use Rattle.counter_effects.proofs.covers.Goals as goal

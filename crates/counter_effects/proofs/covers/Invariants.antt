@@ -1,12 +1,9 @@
 -- `counter_effects::covers` meets its contract. The loop's invariant: the deductions left decide as the whole does. Assumes nothing.
-use native.Mathlib.Omega.{arith}
 use Prim.Native.Nat.{◌-◌}
-use mathlib.Core.Path.{◌≡◌, refl, sym, ◌∙◌}
+use mathlib.Core.Path.{◌≡◌}
 use lib.ListN.{drop}
-use borrow.Author.Tests.{not-true, not-false}
 use Rattle.lists.specs.Tests.{all}
-use Rattle.lists.specs.Entries.{entry, entries_in}
-use Rattle.lists.proofs.Loops.{test_goes, test_stops, test_ends}
+use Rattle.lists.specs.Entries.{entries_in}
 use Rattle.model.specs.Counters.{deductible}
 use Rattle.counter_effects.proofs.covers.Given as goal
 

@@ -1,11 +1,9 @@
 -- `counter_effects::set_modes` meets its contract. The loop's invariant: the settings left, on the copy so far, come to the whole. Assumes nothing.
-use native.Mathlib.Omega.{arith}
 use Prim.Native.Nat.{◌-◌}
-use mathlib.Core.Path.{◌≡◌, refl, ◌∙◌}
+use mathlib.Core.Path.{◌≡◌}
 use mathlib.Core.List.{foldl}
 use lib.ListN.{drop}
-use Rattle.lists.specs.Entries.{entry, entries_in}
-use Rattle.lists.proofs.Loops.{each_goes, each_ends}
+use Rattle.lists.specs.Entries.{entries_in}
 use Rattle.counter_effects.specs.Answers.{set_mode_byte}
 use Rattle.counter_effects.proofs.set_modes.Given as goal
 

@@ -1,5 +1,4 @@
 -- `counter_instructions::deduct_counters` meets its contract. Assumes nothing.
-use borrow.Author.Rules.{rules}
 use borrow.Author.Tests.{eq-eqb, ne_eqb}
 use Rattle.model.specs.Counters.{deduct_counters}
 use Rattle.counter_instructions.proofs.deduct_counters.Goals as goal

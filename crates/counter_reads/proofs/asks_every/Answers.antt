@@ -1,5 +1,4 @@
 -- `counter_reads::asks_every` meets its contract. Assumes nothing.
-use borrow.Author.Rules.{rules}
 use borrow.Author.Tests.{eq-eqb, ne_eqb}
 use Rattle.counter_reads.specs.Reading.{asks_every}
 use Rattle.counter_reads.proofs.asks_every.Goals as goal

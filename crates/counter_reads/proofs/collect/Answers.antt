@@ -1,5 +1,4 @@
 -- `counter_reads::collect` meets its contract. Assumes nothing.
-use borrow.Author.Rules.{rules}
 use mathlib.Core.Path.{sym, ◌∙◌}
 use Rattle.counter_reads.proofs.Readings.{named_every, named_own}
 use Rattle.counter_reads.proofs.collect.Goals as goal

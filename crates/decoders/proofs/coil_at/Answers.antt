@@ -1,5 +1,4 @@
 -- `decoders::coil_at` meets its contract. Assumes nothing.
-use native.Mathlib.Omega.{arith}
 use Rattle.model.specs.Registers.{bit_group, number_at}
 use Rattle.decoders.proofs.Places.{coil_place}
 use Rattle.decoders.proofs.coil_at.Goals as goal

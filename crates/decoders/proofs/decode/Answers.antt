@@ -1,11 +1,7 @@
 -- `decoders::decode` meets its contract. The loop's invariant: the entries left, after those so far, come to the whole. Assumes nothing.
-use native.Mathlib.Omega.{arith}
-use Prim.Native.Nat.{◌-◌}
-use mathlib.Core.Path.{◌≡◌, refl, ◌∙◌}
-use mathlib.Core.List.{foldl}
-use lib.ListN.{drop}
-use Rattle.lists.specs.Entries.{entry, entry_added}
-use Rattle.lists.proofs.Loops.{each_goes, each_ends}
+use mathlib.Core.Path.{◌∙◌}
+use Rattle.lists.specs.Entries.{entry_added}
+use Rattle.lists.proofs.Loops.{each_ends}
 use Rattle.lists.proofs.EntryLaws.{added_all}
 use Rattle.decoders.specs.Layouts.{decoded}
 use Rattle.decoders.proofs.decode.Goals as goal

@@ -1,5 +1,4 @@
 -- `decoders::decoded_at` meets its contract: a place is below the number of entries of its layout. Assumes nothing.
-use borrow.Author.Rules.{rules}
 use Rattle.lists.proofs.EntryLaws.{length-entries}
 use Rattle.decoders.proofs.Places.{length_registers, length_coils}
 use Rattle.decoders.proofs.decoded_at.Goals as goal

@@ -1,9 +1,6 @@
 -- `decoders::decoded_count` meets its contract. Assumes nothing.
-use borrow.Author.Rules.{rules}
 use mathlib.Core.Path.{sym}
-use lib.ListN.{length-map}
 use Rattle.lists.proofs.EntryLaws.{length-entries}
-use Rattle.model.specs.Outputs.{set_byte}
 use Rattle.decoders.proofs.Places.{length_registers, length_coils}
 use Rattle.decoders.proofs.decoded_count.Goals as goal
 

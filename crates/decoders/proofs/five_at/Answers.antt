@@ -1,5 +1,4 @@
 -- `decoders::five_at` meets its contract. Assumes nothing.
-use native.Mathlib.Omega.{arith}
 use Rattle.decoders.proofs.Places.{five_place}
 use Rattle.decoders.proofs.five_at.Goals as goal
 

@@ -1,5 +1,4 @@
 -- `decoders::pair_at` meets its contract. Assumes nothing.
-use native.Mathlib.Omega.{arith}
 use Rattle.decoders.proofs.Places.{pair_place}
 use Rattle.decoders.proofs.pair_at.Goals as goal
 

@@ -1,5 +1,4 @@
 -- `decoders::register_at` meets its contract. Assumes nothing.
-use native.Mathlib.Omega.{arith}
 use Rattle.model.specs.Registers.{number_at}
 use Rattle.decoders.proofs.Places.{register_place}
 use Rattle.decoders.proofs.register_at.Goals as goal

@@ -1,5 +1,4 @@
 -- `decoders::value_at` meets its contract: two bytes, or past the end. Assumes nothing.
-use borrow.Author.Rules.{rules}
 use mathlib.Core.Path.{◌∙◌}
 use Rattle.decoders.proofs.Places.{value_place, value_out}
 use Rattle.decoders.proofs.value_at.Goals as goal

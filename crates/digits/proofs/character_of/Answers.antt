@@ -1,5 +1,4 @@
 -- `digits::character_of` meets its contract. Assumes nothing.
-use borrow.Author.Rules.{rules}
 use borrow.Author.Tests.{lt-ltb, le-ltb}
 use Rattle.digits.specs.Writing.{character}
 use Rattle.digits.proofs.character_of.Goals as goal

@@ -1,7 +1,4 @@
 -- `digits::digit_of` meets its contract: the tests are those of `digit`. Assumes nothing.
-use native.Mathlib.Omega.{arith}
-use borrow.Author.Tests.{leb-true}
-use Rattle.lists.proofs.Choices.{and_left}
 use Rattle.digits.specs.Reading.{digit}
 use Rattle.digits.proofs.digit_of.Goals as goal
 

@@ -1,11 +1,7 @@
 -- `digits::digits_of` meets its contract. The loop's invariant: what is left, after the number so far, comes to the whole. Assumes nothing.
-use borrow.Author.Rules.{rules}
 use native.Mathlib.Omega.{arith}
-use Prim.Native.Nat.{◌≤◌, ◌<◌, ◌-◌}
-use mathlib.Core.Path.{◌≡◌, refl, ◌∙◌}
-use lib.ListN.{length, drop}
-use Rattle.digits.specs.Reading.{digits}
-use Rattle.digits.proofs.Digits.{product, digits_goes, digits_none, digits_large, digits_ends}
+use mathlib.Core.Path.{◌∙◌}
+use Rattle.digits.proofs.Digits.{digits_goes, digits_none, digits_large, digits_ends}
 use Rattle.digits.proofs.digits_of.Goals as goal
 
 pub returns-then-base-d : goal.returns-then-base-d

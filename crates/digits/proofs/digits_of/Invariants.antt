@@ -1,11 +1,8 @@
 -- `digits::digits_of` meets its contract. The loop's invariant: what is left, after the number so far, comes to the whole. Assumes nothing.
-use borrow.Author.Rules.{rules}
-use native.Mathlib.Omega.{arith}
 use Prim.Native.Nat.{◌≤◌, ◌<◌, ◌-◌}
-use mathlib.Core.Path.{◌≡◌, refl, ◌∙◌}
+use mathlib.Core.Path.{◌≡◌}
 use lib.ListN.{length, drop}
 use Rattle.digits.specs.Reading.{digits}
-use Rattle.digits.proofs.Digits.{product, digits_goes, digits_none, digits_large, digits_ends}
 use Rattle.digits.proofs.digits_of.Given as goal
 
 abbrev pub invariant-loop-i : goal.invariant-loop-i

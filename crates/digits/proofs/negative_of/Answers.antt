@@ -1,5 +1,4 @@
 -- `digits::negative_of` meets its contract. Assumes nothing.
-use borrow.Author.Rules.{rules}
 use borrow.Author.Tests.{lt-ltb, le-ltb}
 use Rattle.digits.specs.Reading.{negative}
 use Rattle.digits.proofs.negative_of.Goals as goal

@@ -1,8 +1,5 @@
 -- `digits::places_of` meets its contract. The loop's invariant: the digits counted and those of what is left are all. Assumes nothing.
-use Prim.Native.Nat.{suc, ◌+◌, ◌-◌, ◌≤◌}
 use native.Mathlib.Omega.{arith}
-use mathlib.Core.Path.{◌≡◌}
-use Rattle.digits.specs.Writing.{places_in, places}
 use Rattle.digits.proofs.Characters.{count_stops, count_goes, count_ends}
 use Rattle.digits.proofs.places_of.Goals as goal
 

@@ -1,5 +1,4 @@
 -- `digits::signed_decimal_of` meets its contract. Assumes nothing.
-use borrow.Author.Rules.{rules}
 use Rattle.digits.proofs.Signs.{signed_none, signed_minus, signed_plus, signed_bare}
 use Rattle.digits.proofs.signed_decimal_of.Goals as goal
 

@@ -1,14 +1,9 @@
 -- `digits::written_of` meets its contract. The loop's invariant: the digits to come and those stored are all. Assumes nothing.
-use Prim.Native.Nat.{◌-◌, ◌≤◌, ◌%◌, ◌<◌}
-use native.Mathlib.Omega.{arith}
-use native.Mathlib.Nat.{mod-lt}
-use mathlib.Core.Path.{◌≡◌, ◌∙◌, ap}
+use Prim.Native.Nat.{◌-◌, ◌≤◌}
+use mathlib.Core.Path.{◌≡◌}
 use mathlib.Core.List.{◌++◌}
 use lib.ListN.{length, drop, replicate}
-use borrow.Author.Rules.{rules}
-use Rattle.digits.specs.Writing.{written, padded}
-use Rattle.digits.proofs.Characters.{stored, length-written}
-use Rattle.lists.proofs.Parts.{drop_zeros}
+use Rattle.digits.specs.Writing.{written}
 use Rattle.digits.proofs.written_of.Given as goal
 
 abbrev pub invariant-loop-i : goal.invariant-loop-i

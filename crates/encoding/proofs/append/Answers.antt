@@ -1,15 +1,12 @@
 -- `encoding::append` meets its contract. The loop's invariant: the bytes of `b` still to pass, on what stands now, come to all of them on `d`. Assumes nothing.
-use Prim.Native.Nat.{◌≤◌, ◌-◌}
+use Prim.Native.Nat.{◌≤◌}
 use mathlib.Core.Path.{◌≡◌, ◌∙◌}
-use mathlib.Core.Logic.{⊎_elim}
 use native.Mathlib.Omega.{arith}
-use native.Mathlib.Nat.{min-le_right}
 use borrow.Author.Rules.{rules}
 use borrow.Author.Tests.{lt-ltb, le-ltb}
-use lib.ListN.{length, take, drop, get_or}
-use Rattle.lists.specs.Data.{extended, pushed, bytes_in}
+use lib.ListN.{length, get_or}
+use Rattle.lists.specs.Data.{extended, pushed}
 use Rattle.lists.proofs.DataLaws.{field_length, extend_turn, rest_none}
-use Rattle.lists.proofs.Parts.{take_limited}
 use Rattle.encoding.proofs.append.Goals as goal
 use Rattle.encoding.proofs.append.Goals.{Joined-at-lt256, Start, then-at-lt256, else-at-lt256}
 

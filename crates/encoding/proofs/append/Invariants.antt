@@ -1,15 +1,8 @@
 -- `encoding::append` meets its contract. The loop's invariant: the bytes of `b` still to pass, on what stands now, come to all of them on `d`. Assumes nothing.
 use Prim.Native.Nat.{◌≤◌, ◌-◌}
-use mathlib.Core.Path.{◌≡◌, ◌∙◌}
-use mathlib.Core.Logic.{⊎_elim}
-use native.Mathlib.Omega.{arith}
-use native.Mathlib.Nat.{min-le_right}
-use borrow.Author.Rules.{rules}
-use borrow.Author.Tests.{lt-ltb, le-ltb}
-use lib.ListN.{length, take, drop, get_or}
-use Rattle.lists.specs.Data.{extended, pushed, bytes_in}
-use Rattle.lists.proofs.DataLaws.{field_length, extend_turn, rest_none}
-use Rattle.lists.proofs.Parts.{take_limited}
+use mathlib.Core.Path.{◌≡◌}
+use lib.ListN.{take, drop}
+use Rattle.lists.specs.Data.{extended, bytes_in}
 use Rattle.encoding.proofs.append.Given as goal
 
 abbrev pub invariant-loop-i : goal.invariant-loop-i

@@ -1,5 +1,4 @@
 -- `encoding::push` meets its contract: the test for room is the one of `pushed`. Assumes nothing.
-use borrow.Author.Rules.{rules}
 use Rattle.lists.specs.Data.{pushed}
 use borrow.Author.Tests.{lt-ltb, le-ltb}
 use Rattle.encoding.proofs.push.Goals as goal

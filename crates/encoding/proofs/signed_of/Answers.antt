@@ -3,7 +3,6 @@ use mathlib.Core.Path.{◌≡◌, ap}
 use lib.IntN.{negsuc}
 use Prim.Native.Nat.{◌-◌}
 use native.Mathlib.Omega.{arith}
-use borrow.Author.Rules.{rules}
 use borrow.Author.Tests.{lt-ltb, le-ltb}
 use Rattle.model.specs.Temperature.{signed_of}
 use Rattle.encoding.proofs.signed_of.Goals as goal

@@ -1,5 +1,4 @@
 -- `entries::add` meets its contract: the test for room is the one of `entry_added`. Assumes nothing.
-use native.Mathlib.Omega.{arith}
 use borrow.Author.Tests.{lt-ltb, le-ltb}
 use Rattle.lists.specs.Entries.{entry_added}
 use Rattle.entries.proofs.add.Goals as goal

@@ -1,5 +1,4 @@
 -- `frame_load::call` meets its contract. Assumes nothing.
-use Rattle.std.proofs.Common.{rules}
 use Rattle.frame_load.specs.Play.{act_of}
 use Rattle.frame_load.proofs.call.Goals as goal
 

@@ -1,6 +1,6 @@
 -- `frame_load::play` meets its contract. Assumes nothing.
-use Rattle.std.proofs.Common.{◌≡◌, ◌-◌, ◌≤◌, length, refl, ◌∙◌, add-one, arith, rules}
-use Rattle.frame_load.specs.Play.{act_of, play_many, buffer_many}
+use Rattle.std.proofs.Common.{refl, add-one, arith, rules}
+use Rattle.frame_load.specs.Play.{play_many, buffer_many}
 use Rattle.frame_load.proofs.play.Goals as goal
 
 pub loop-i-init : goal.loop-i-init

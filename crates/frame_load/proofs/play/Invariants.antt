@@ -1,5 +1,5 @@
 -- `frame_load::play` meets its contract. Assumes nothing.
-use Rattle.std.proofs.Common.{◌≡◌, ◌-◌, ◌≤◌, length, refl, ◌∙◌, add-one, arith, rules}
+use Rattle.std.proofs.Common.{◌≡◌, ◌-◌, ◌≤◌, length}
 use Rattle.frame_load.specs.Play.{act_of, play_many, buffer_many}
 use Rattle.frame_load.proofs.play.Given as goal
 

@@ -1,5 +1,4 @@
 -- `frame_load::play_one` meets its contract. Assumes nothing.
-use Rattle.std.proofs.Common.{rules}
 use Rattle.frame_load.specs.Play.{play_one, buffer_one}
 use Rattle.frame_load.proofs.play_one.Goals as goal
 

@@ -1,7 +1,6 @@
 -- `frames::shape_wrong` meets its contract. Assumes nothing.
 use borrow.Author.Tests.{eq-eqb, ne_eqb}
 use Rattle.model.specs.Refusals.{shape_wrong}
-use borrow.Author.Rules.{rules}
 use Rattle.frames.proofs.shape_wrong.Goals as goal
 
 pub returns-then-frame-ne42 : goal.returns-then-frame-ne42

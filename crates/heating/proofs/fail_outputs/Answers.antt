@@ -1,13 +1,11 @@
 -- `heating::fail_outputs` meets its contract. Assumes nothing.
-use Prim.Native.Nat.{◌-◌, ◌≤◌, ◌<◌}
+use Prim.Native.Nat.{◌<◌}
 use mathlib.Core.Path.{◌≡◌, sym, ◌∙◌}
 use native.Mathlib.Omega.{arith}
 use borrow.Author.Rules.{rules}
-use lib.ListN.{length, get_or}
-use Rattle.lists.specs.Mapi.{done}
+use lib.ListN.{length}
 use Rattle.lists.proofs.Done.{done_none, done_turn, done_all}
-use Rattle.model.specs.State.{fresh_output, fresh_thermostat}
-use Rattle.model.specs.Temperature.{failed}
+use Rattle.model.specs.State.{fresh_output}
 use Rattle.heating.proofs.fail_outputs.Goals as goal
 use Rattle.heating.proofs.fail_outputs.Goals.{Start}
 

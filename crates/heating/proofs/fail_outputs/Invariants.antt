@@ -1,12 +1,9 @@
 -- `heating::fail_outputs` meets its contract. Assumes nothing.
-use Prim.Native.Nat.{◌-◌, ◌≤◌, ◌<◌}
-use mathlib.Core.Path.{◌≡◌, sym, ◌∙◌}
-use native.Mathlib.Omega.{arith}
-use borrow.Author.Rules.{rules}
-use lib.ListN.{length, get_or}
+use Prim.Native.Nat.{◌-◌, ◌≤◌}
+use mathlib.Core.Path.{◌≡◌}
+use lib.ListN.{get_or}
 use Rattle.lists.specs.Mapi.{done}
-use Rattle.lists.proofs.Done.{done_none, done_turn, done_all}
-use Rattle.model.specs.State.{fresh_output, fresh_thermostat}
+use Rattle.model.specs.State.{fresh_thermostat}
 use Rattle.model.specs.Temperature.{failed}
 use Rattle.heating.proofs.fail_outputs.Given as goal
 

@@ -1,16 +1,14 @@
 -- `heating::heat_outputs` meets its contract. Assumes nothing.
-use Prim.Native.Nat.{◌-◌, ◌≤◌, ◌<◌}
+use Prim.Native.Nat.{◌<◌}
 use mathlib.Core.Path.{◌≡◌, sym, ◌∙◌}
 use native.Mathlib.Omega.{arith}
 use borrow.Author.Rules.{rules}
-use lib.ListN.{length, get_or}
-use Rattle.lists.specs.Mapi.{done}
+use lib.ListN.{length}
 use Rattle.lists.proofs.Done.{done_none, done_turn, done_all}
-use Rattle.model.specs.State.{fresh_output, fresh_thermostat}
+use Rattle.model.specs.State.{fresh_output}
 use mir.Syntax.{w16}
 use mir.Val.{to_z, of_z}
 use mir.Facts.{to_z-of_z}
-use Rattle.model.specs.Temperature.{heated}
 use Rattle.heating.proofs.heat_outputs.Goals as goal
 use Rattle.heating.proofs.heat_outputs.Goals.{Start}
 

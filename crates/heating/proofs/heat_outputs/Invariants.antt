@@ -1,15 +1,9 @@
 -- `heating::heat_outputs` meets its contract. Assumes nothing.
-use Prim.Native.Nat.{◌-◌, ◌≤◌, ◌<◌}
-use mathlib.Core.Path.{◌≡◌, sym, ◌∙◌}
-use native.Mathlib.Omega.{arith}
-use borrow.Author.Rules.{rules}
-use lib.ListN.{length, get_or}
+use Prim.Native.Nat.{◌-◌, ◌≤◌}
+use mathlib.Core.Path.{◌≡◌}
+use lib.ListN.{get_or}
 use Rattle.lists.specs.Mapi.{done}
-use Rattle.lists.proofs.Done.{done_none, done_turn, done_all}
-use Rattle.model.specs.State.{fresh_output, fresh_thermostat}
-use mir.Syntax.{w16}
-use mir.Val.{to_z, of_z}
-use mir.Facts.{to_z-of_z}
+use Rattle.model.specs.State.{fresh_thermostat}
 use Rattle.model.specs.Temperature.{heated}
 use Rattle.heating.proofs.heat_outputs.Given as goal
 

@@ -1,12 +1,9 @@
 -- `inputs::any_edge` meets its contract. Assumes nothing.
-use borrow.Author.Rules.{rules}
-use native.Mathlib.Omega.{arith}
 use Prim.Native.Nat.{◌-◌, ◌≤◌}
 use mathlib.Core.Bool.{false}
-use mathlib.Core.Path.{◌≡◌, sym, ◌∙◌}
-use lib.ListN.{length, get_or}
+use mathlib.Core.Path.{◌≡◌}
+use lib.ListN.{get_or}
 use Rattle.lists.specs.Tests.{some_below}
-use Rattle.lists.proofs.Somes.{some_none, some_turn, some_of}
 use Rattle.inputs.proofs.any_edge.Given as goal
 
 abbrev pub invariant-loop-i : goal.invariant-loop-i

@@ -1,12 +1,10 @@
 -- `inputs::any_masked` meets its contract. Assumes nothing.
 use borrow.Author.Rules.{rules}
 use native.Mathlib.Omega.{arith}
-use Prim.Native.Nat.{◌-◌, ◌≤◌}
 use mathlib.Core.Bool.{false, ◌&&◌}
 use mathlib.Core.Path.{◌≡◌, sym, ◌∙◌}
 use lib.ListN.{length, get_or}
 use Rattle.lists.specs.Numbers.{bit_at}
-use Rattle.lists.specs.Tests.{some_below}
 use Rattle.lists.proofs.Somes.{some_none, some_turn, some_any}
 use Rattle.inputs.specs.Passes.{any_masked}
 use Rattle.inputs.proofs.any_masked.Goals as goal

@@ -1,11 +1,8 @@
 -- `inputs::count_lines` meets its contract. Assumes nothing.
-use Prim.Native.Nat.{◌-◌, ◌≤◌, ◌<◌}
-use mathlib.Core.Bool.{false}
+use Prim.Native.Nat.{◌<◌}
 use mathlib.Core.Path.{◌≡◌, sym, ◌∙◌}
-use lib.ListN.{length, get_or}
-use Rattle.lists.specs.Mapi.{done}
+use lib.ListN.{length}
 use Rattle.lists.proofs.Done.{done_none, done_turn, done_all}
-use Rattle.model.specs.Samples.{counted}
 use borrow.Author.Rules.{rules}
 use native.Mathlib.Omega.{arith}
 use Rattle.inputs.proofs.Edges.{by_found}

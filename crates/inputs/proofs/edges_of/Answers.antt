@@ -1,11 +1,11 @@
 -- `inputs::edges_of` meets its contract. The loop's invariant: the edges before `i`, then none. Assumes nothing.
 use borrow.Author.Rules.{rules}
 use native.Mathlib.Omega.{arith}
-use Prim.Native.Nat.{◌-◌, ◌<◌}
+use Prim.Native.Nat.{◌<◌}
 use mathlib.Core.Bool.{false}
-use mathlib.Core.Path.{◌≡◌, refl, sym, ◌∙◌}
+use mathlib.Core.Path.{◌≡◌, sym, ◌∙◌}
 use lib.ListN.{length, get_or}
-use Rattle.lists.proofs.DataLaws.{Made, made_turn, made_all}
+use Rattle.lists.proofs.DataLaws.{made_turn, made_all}
 use Rattle.lists.proofs.Done.{get_d_mapi, length-mapi}
 use Rattle.model.specs.State.{fresh_line}
 use Rattle.model.specs.Samples.{is_edge, edges}

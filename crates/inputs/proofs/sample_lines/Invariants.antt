@@ -1,14 +1,9 @@
 -- `inputs::sample_lines` meets its contract. Assumes nothing.
-use Prim.Native.Nat.{◌-◌, ◌≤◌, ◌<◌}
-use mathlib.Core.Path.{◌≡◌, sym, ◌∙◌}
-use native.Mathlib.Omega.{arith}
-use borrow.Author.Rules.{rules}
-use lib.ListN.{length}
-use Rattle.lists.proofs.Done.{done_none, done_turn, done_all}
+use Prim.Native.Nat.{◌-◌, ◌≤◌}
+use mathlib.Core.Path.{◌≡◌}
 use Rattle.lists.specs.Numbers.{bit_at}
-use Rattle.model.specs.Samples.{line_sampled, lines_sampled}
+use Rattle.model.specs.Samples.{line_sampled}
 use Rattle.lists.specs.Mapi.{done}
-use Rattle.model.specs.State.{fresh_line}
 use Rattle.inputs.proofs.sample_lines.Given as goal
 
 abbrev pub invariant-loop-i : goal.invariant-loop-i

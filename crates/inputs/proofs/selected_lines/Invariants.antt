@@ -1,14 +1,7 @@
 -- `inputs::selected_lines` meets its contract. The loop's invariant: the selected ones before `i`, then none. Assumes nothing.
-use borrow.Author.Rules.{rules}
-use native.Mathlib.Omega.{arith}
-use Prim.Native.Nat.{◌-◌, ◌<◌}
+use Prim.Native.Nat.{◌-◌}
 use mathlib.Core.Bool.{false}
-use mathlib.Core.Path.{◌≡◌, refl, sym, ◌∙◌}
-use lib.ListN.{length, get_or}
-use Rattle.lists.proofs.DataLaws.{Made, made_turn, made_all}
-use Rattle.lists.proofs.Done.{get_d_mapi, length-mapi}
-use Rattle.model.specs.State.{fresh_line}
-use Rattle.model.specs.Samples.{selected_edge}
+use Rattle.lists.proofs.DataLaws.{Made}
 use Rattle.inputs.specs.Passes.{selected_lines}
 use Rattle.inputs.proofs.selected_lines.Given as goal
 

@@ -1,12 +1,8 @@
 -- `iomodule::copy_out` meets its contract. Assumes nothing.
-use borrow.Author.Rules.{rules}
-use native.Mathlib.Omega.{arith}
 use Prim.Native.Nat.{◌≤◌, ◌-◌}
-use mathlib.Core.Path.{◌≡◌, refl}
+use mathlib.Core.Path.{◌≡◌}
 use mathlib.Core.List.{◌++◌}
-use lib.ListN.{length, take, drop, length-set}
-use lib.Seq.{length-take-le}
-use Rattle.lists.proofs.DataLaws.{over_turn}
+use lib.ListN.{length, take, drop}
 use Rattle.iomodule.proofs.copy_out.Given as goal
 
 abbrev pub invariant-loop-i : goal.invariant-loop-i

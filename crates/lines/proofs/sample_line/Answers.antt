@@ -1,5 +1,5 @@
 -- `lines::sample_line` meets its contract. Assumes nothing.
-use Rattle.std.proofs.Common.{rules, le-leb}
+use Rattle.std.proofs.Common.{le-leb}
 use borrow.Author.Tests.{lt-leb}
 use Rattle.model.specs.Samples.{line_sampled}
 use Rattle.lines.proofs.sample_line.Goals as goal

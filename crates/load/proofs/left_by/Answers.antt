@@ -1,5 +1,4 @@
 -- `load::left_by` meets its contract. Assumes nothing.
-use Rattle.std.proofs.Common.{rules}
 use Rattle.load.specs.Play.{left_by}
 use Rattle.load.proofs.left_by.Goals as goal
 

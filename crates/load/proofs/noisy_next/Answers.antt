@@ -1,5 +1,4 @@
 -- `load::noisy_next` meets its contract. Assumes nothing.
-use Rattle.std.proofs.Common.{rules}
 use Rattle.load.specs.Play.{noisy_next}
 use Rattle.load.proofs.noisy_next.Goals as goal
 

@@ -1,5 +1,5 @@
 -- `load::play` meets its contract. Assumes nothing.
-use Rattle.std.proofs.Common.{◌≡◌, ◌-◌, ◌≤◌, length, refl, ◌∙◌, add-one, arith, rules}
+use Rattle.std.proofs.Common.{refl, add-one, arith, rules}
 use Rattle.load.specs.Play.{play_many, buffer_many}
 use Rattle.load.proofs.play.Goals as goal
 

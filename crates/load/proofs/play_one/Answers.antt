@@ -1,5 +1,4 @@
 -- `load::play_one` meets its contract. Assumes nothing.
-use Rattle.std.proofs.Common.{rules}
 use Rattle.load.specs.Play.{play_one, buffer_one}
 use Rattle.load.proofs.play_one.Goals as goal
 

@@ -1,5 +1,4 @@
 -- `load::start` meets its contract. Assumes nothing.
-use Rattle.std.proofs.Common.{rules}
 use Rattle.model.specs.State.{fresh_module}
 use Rattle.load.specs.Play.{start_of}
 use Rattle.load.proofs.start.Goals as goal

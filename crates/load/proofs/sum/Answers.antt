@@ -1,5 +1,5 @@
 -- `load::sum` meets its contract. Assumes nothing.
-use Rattle.std.proofs.Common.{◌≡◌, ◌-◌, ◌≤◌, refl, ◌∙◌, add-one, arith}
+use Rattle.std.proofs.Common.{refl, add-one, arith}
 use Rattle.load.specs.Play.{sum_of}
 use Rattle.load.proofs.sum.Goals as goal
 

@@ -1,5 +1,5 @@
 -- `load::typical_next` meets its contract. Assumes nothing.
-use Rattle.std.proofs.Common.{rules, eq-eqb, ne_eqb}
+use Rattle.std.proofs.Common.{eq-eqb, ne_eqb}
 use Rattle.load.specs.Play.{typical_next}
 use Rattle.load.proofs.typical_next.Goals as goal
 

@@ -1,5 +1,4 @@
 -- `modbus::act` meets its contract. Assumes nothing.
-use borrow.Author.Rules.{rules}
 use mathlib.Core.Path.{◌∙◌}
 use Rattle.model.specs.Frames.{function_of, modbus_body}
 use Rattle.model.specs.Wire.{used_up, frame_acted}

@@ -1,6 +1,5 @@
 -- `modbus::read_group` meets its contract. Assumes nothing.
 use native.Mathlib.Omega.{arith}
-use mathlib.Core.Logic.{⊎_elim}
 use Rattle.model.specs.Refusals.{judged}
 use Rattle.modbus.proofs.Ranges.{Unread, read_at_1, read_at_100, read_at_300, read_at_500, read_at_600, read_nowhere}
 use Rattle.modbus.proofs.read_group.Goals as goal

@@ -2,7 +2,7 @@
 use mathlib.Core.Path.{sym, ◌∙◌}
 use Rattle.model.specs.Refusals.{reading}
 use Rattle.model.specs.Modbus.{start_of, second_of, quantity_wrong, registers_read}
-use Rattle.modbus_bodies.proofs.Laws.{refused_8, passed_8}
+use Rattle.modbus_bodies.proofs.Laws.{refused_8}
 use Rattle.modbus.proofs.Ranges.{groups_listed}
 use Rattle.modbus.proofs.read_registers.Goals as goal
 

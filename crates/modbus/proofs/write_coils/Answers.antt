@@ -1,5 +1,4 @@
 -- `modbus::write_coils` meets its contract. Assumes nothing.
-use borrow.Author.Rules.{rules}
 use mathlib.Core.Path.{refl, sym, ◌∙◌}
 use Prim.Native.Nat.{◌+◌, ◌/◌, ◌≤◌}
 use lib.ListN.{length, take, drop}

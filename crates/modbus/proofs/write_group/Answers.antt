@@ -1,6 +1,5 @@
 -- `modbus::write_group` meets its contract. Assumes nothing.
 use native.Mathlib.Omega.{arith}
-use mathlib.Core.Logic.{⊎_elim}
 use Rattle.model.specs.Refusals.{judged}
 use Rattle.model.specs.Modbus.{words}
 use Rattle.modbus.proofs.Ranges.{Unwritten, write_at_0, write_at_1, write_at_100, write_at_200, write_at_300, write_at_500, write_at_600, write_nowhere}

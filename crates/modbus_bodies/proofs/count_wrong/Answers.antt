@@ -1,5 +1,4 @@
 -- `modbus_bodies::count_wrong` meets its contract. Assumes nothing.
-use borrow.Author.Rules.{rules}
 use borrow.Author.Tests.{eq-eqb, ne_eqb}
 use Rattle.model.specs.Modbus.{count_wrong}
 use Rattle.lists.proofs.Choices.{ends_outside, ends_inside}

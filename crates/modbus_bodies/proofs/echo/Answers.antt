@@ -1,5 +1,4 @@
 -- `modbus_bodies::echo` meets its contract. Assumes nothing.
-use borrow.Author.Tests.{ne_eqb}
 use Rattle.lists.proofs.DataLaws.{four_pushed}
 use Rattle.modbus_bodies.proofs.echo.Goals as goal
 

@@ -1,11 +1,7 @@
 -- `number_lists::all_numbers` meets its contract. The loop's invariant: what is left decides as the whole does. Assumes nothing.
-use borrow.Author.Rules.{rules}
 use native.Mathlib.Omega.{arith}
-use Prim.Native.Nat.{◌≤◌, ◌-◌}
-use mathlib.Core.Path.{◌≡◌, refl, sym, ◌∙◌}
-use lib.ListN.{length, drop, drop_of_length-le}
-use borrow.Author.Tests.{not-true, not-false}
-use Rattle.lists.specs.Tests.{all}
+use mathlib.Core.Path.{sym, ◌∙◌}
+use lib.ListN.{drop_of_length-le}
 use Rattle.lists.proofs.Choices.{all_goes, all_stops, all_ends}
 use Rattle.lists.proofs.ChunkLaws.{rest_first}
 use Rattle.number_lists.specs.Items.{has_number}

@@ -1,5 +1,4 @@
 -- `number_lists::is_all` meets its contract. Assumes nothing.
-use borrow.Author.Rules.{rules}
 use borrow.Author.Tests.{eq-eqb, ne_eqb}
 use Rattle.number_lists.specs.Items.{asks_all}
 use Rattle.number_lists.proofs.is_all.Goals as goal

@@ -1,5 +1,4 @@
 -- `number_lists::items_of` meets its contract; of items of no bytes there are none. Assumes nothing.
-use borrow.Author.Rules.{rules}
 use Prim.Native.Nat.{◌%◌}
 use lib.Dec.{eqb}
 use native.Mathlib.Nat.{div-zero}

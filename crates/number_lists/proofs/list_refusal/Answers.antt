@@ -1,6 +1,5 @@
 -- `number_lists::list_refusal` meets its contract. Assumes nothing.
 use mathlib.Core.Path.{sym, ◌∙◌}
-use borrow.Author.Tests.{not-true, not-false}
 use Rattle.number_lists.specs.Items.{list_refusal}
 use Rattle.number_lists.proofs.Lists.{items_length}
 use Rattle.number_lists.proofs.list_refusal.Goals as goal

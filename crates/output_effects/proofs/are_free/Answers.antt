@@ -1,12 +1,7 @@
 -- `output_effects::are_free` meets its contract. The loop's invariant: the entries left decide as the whole does. Assumes nothing.
-use native.Mathlib.Omega.{arith}
-use Prim.Native.Nat.{◌-◌}
-use mathlib.Core.Path.{◌≡◌, refl, sym, ◌∙◌}
-use lib.ListN.{drop}
-use borrow.Author.Tests.{not-true, not-false}
-use Rattle.lists.specs.Tests.{all}
+use mathlib.Core.Path.{sym, ◌∙◌}
 use Rattle.lists.specs.declared.Entry.{Entry}
-use Rattle.lists.specs.Entries.{entry, entries_in}
+use Rattle.lists.specs.Entries.{entry}
 use Rattle.lists.proofs.Loops.{test_goes, test_stops, test_ends}
 use Rattle.model.specs.Temperature.{free_at}
 use Rattle.output_effects.proofs.are_free.Goals as goal

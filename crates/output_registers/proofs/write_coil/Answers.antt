@@ -1,5 +1,4 @@
 -- `output_registers::write_coil` meets its contract: 11 for the value or the number. Assumes nothing.
-use native.Mathlib.Omega.{arith}
 use mathlib.Core.Path.{refl, ap}
 use mathlib.Core.Bool.{cond, not, ◌||◌}
 use mathlib.Core.List.{[], ◌∷◌}

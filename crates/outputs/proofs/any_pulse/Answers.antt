@@ -1,9 +1,7 @@
 -- `outputs::any_pulse` meets its contract. Assumes nothing.
-use Prim.Native.Nat.{◌-◌, ◌≤◌}
 use mathlib.Core.Path.{◌≡◌, ◌∙◌}
-use Rattle.lists.specs.Tests.{some_below}
 use Rattle.lists.proofs.Somes.{some_none, some_turn}
-use Rattle.outputs.specs.Passes.{pulse_at, any_pulse}
+use Rattle.outputs.specs.Passes.{any_pulse}
 use native.Mathlib.Omega.{arith}
 use Rattle.outputs.proofs.any_pulse.Goals as goal
 

@@ -1,10 +1,8 @@
 -- `outputs::any_pulse` meets its contract. Assumes nothing.
 use Prim.Native.Nat.{◌-◌, ◌≤◌}
-use mathlib.Core.Path.{◌≡◌, ◌∙◌}
+use mathlib.Core.Path.{◌≡◌}
 use Rattle.lists.specs.Tests.{some_below}
-use Rattle.lists.proofs.Somes.{some_none, some_turn}
-use Rattle.outputs.specs.Passes.{pulse_at, any_pulse}
-use native.Mathlib.Omega.{arith}
+use Rattle.outputs.specs.Passes.{pulse_at}
 use Rattle.outputs.proofs.any_pulse.Given as goal
 
 abbrev pub invariant-loop-i : goal.invariant-loop-i

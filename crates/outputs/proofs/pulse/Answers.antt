@@ -1,5 +1,4 @@
 -- `outputs::pulse` meets its contract. Assumes nothing.
-use borrow.Author.Rules.{rules}
 use borrow.Author.Tests.{eq-eqb, ne_eqb}
 use Rattle.model.specs.Outputs.{pulsed}
 use Rattle.outputs.proofs.pulse.Goals as goal

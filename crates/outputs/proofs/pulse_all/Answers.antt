@@ -1,8 +1,7 @@
 -- `outputs::pulse_all` meets its contract. Assumes nothing.
-use Prim.Native.Nat.{◌-◌, ◌≤◌, ◌<◌}
+use Prim.Native.Nat.{◌<◌}
 use mathlib.Core.Path.{◌≡◌, sym, ◌∙◌}
 use lib.ListN.{length}
-use Rattle.lists.specs.Mapi.{done}
 use Rattle.lists.proofs.Done.{done_none, done_turn, done_map}
 use Rattle.model.specs.State.{fresh_output}
 use Rattle.model.specs.Outputs.{pulsed}

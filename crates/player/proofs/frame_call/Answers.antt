@@ -1,5 +1,4 @@
 -- `player::frame_call` meets its contract. Assumes nothing.
-use borrow.Author.Rules.{rules}
 use Rattle.player.specs.Scripts.{frame_call}
 use Rattle.player.proofs.frame_call.Goals as goal
 

@@ -1,8 +1,6 @@
 -- `player::frame_text` meets its contract. Assumes nothing.
 use borrow.Author.Rules.{rules}
-use native.Mathlib.Omega.{arith}
-use lib.ListN.{length-take}
-use Rattle.player.proofs.Answers.{reply_fits, frame_printed}
+use Rattle.player.proofs.Answers.{frame_printed}
 use Rattle.player.proofs.frame_text.Goals as goal
 
 pub returns : goal.returns

@@ -1,14 +1,11 @@
 -- `player::play` meets its contract. The loop's invariant: the lines left, on the state now, come to all of them. Assumes nothing.
-use Prim.Native.Nat.{◌+◌, ◌-◌, ◌≤◌}
-use native.Mathlib.Omega.{arith}
-use borrow.Author.Rules.{rules}
-use mathlib.Core.Path.{◌≡◌, ◌∙◌}
+use Prim.Native.Nat.{◌-◌, ◌≤◌}
+use mathlib.Core.Path.{◌≡◌}
 use mathlib.Core.List.{[]}
 use lib.ListN.{length, drop}
 use Rattle.model.specs.State.{fresh_module}
 use Rattle.model.specs.Calls.{run}
 use Rattle.player.specs.Scripts.{lines, lines_calls, script_calls}
-use Rattle.player.proofs.Lines.{line_fits, line_goes, line_last, lines_over}
 use Rattle.player.proofs.play.Given as goal
 
 abbrev pub invariant-loop-at : goal.invariant-loop-at

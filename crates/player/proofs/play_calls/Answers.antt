@@ -3,10 +3,8 @@ use mir.Syntax.{w16}
 use mir.Val.{SFits}
 use mir.Facts.{to_z-of_z}
 use native.Mathlib.Omega.{arith}
-use native.Mathlib.Nat.{min-le_right}
-use lib.ListN.{length, take, length-take}
+use lib.ListN.{take}
 use mathlib.Core.Path.{◌≡◌}
-use Prim.Native.Nat.{◌≤◌}
 use borrow.Author.Tests.{ne_eqb}
 use Rattle.lists.proofs.DataLaws.{field_length}
 use Rattle.model.specs.Calls.{step, run}

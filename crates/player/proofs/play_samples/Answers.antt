@@ -1,8 +1,6 @@
 -- `player::play_samples` meets its contract. The loop's invariant: the samples left, on the state now, come to all of them. Assumes nothing.
 use native.Mathlib.Omega.{arith}
-use mathlib.Core.Path.{◌≡◌, refl, ◌∙◌}
-use lib.ListN.{replicate}
-use Rattle.model.specs.Call.{call, sample}
+use mathlib.Core.Path.{◌≡◌, ◌∙◌}
 use Rattle.model.specs.Calls.{run}
 use Rattle.player.proofs.Answers.{samples_go}
 use Rattle.player.proofs.play_samples.Goals as goal

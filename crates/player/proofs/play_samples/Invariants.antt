@@ -1,10 +1,8 @@
 -- `player::play_samples` meets its contract. The loop's invariant: the samples left, on the state now, come to all of them. Assumes nothing.
-use native.Mathlib.Omega.{arith}
-use mathlib.Core.Path.{◌≡◌, refl, ◌∙◌}
+use mathlib.Core.Path.{◌≡◌}
 use lib.ListN.{replicate}
 use Rattle.model.specs.Call.{call, sample}
 use Rattle.model.specs.Calls.{run}
-use Rattle.player.proofs.Answers.{samples_go}
 use Rattle.player.proofs.play_samples.Given as goal
 
 abbrev pub invariant-loop-left : goal.invariant-loop-left

@@ -1,9 +1,7 @@
 -- `player::play_toggles` meets its contract. The loop's invariant: the turns left, on the state now, come to all of them. Assumes nothing.
-use native.Mathlib.Omega.{arith}
-use mathlib.Core.Path.{◌≡◌, refl, ◌∙◌}
+use mathlib.Core.Path.{◌≡◌}
 use Rattle.model.specs.Calls.{run}
 use Rattle.player.specs.Scripts.{in_turn}
-use Rattle.player.proofs.Answers.{turns_go}
 use Rattle.player.proofs.play_toggles.Given as goal
 
 abbrev pub invariant-loop-left : goal.invariant-loop-left

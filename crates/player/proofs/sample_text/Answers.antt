@@ -1,9 +1,7 @@
 -- `player::sample_text` meets its contract. Assumes nothing.
 use borrow.Author.Rules.{rules}
-use native.Mathlib.Omega.{arith}
-use lib.ListN.{length-take}
 use Rattle.digits.specs.Writing.{padded}
-use Rattle.player.proofs.Answers.{reply_fits, notice_printed, notice_none}
+use Rattle.player.proofs.Answers.{notice_printed, notice_none}
 use Rattle.player.proofs.sample_text.Goals as goal
 
 pub returns-then-len-eq0 : goal.returns-then-len-eq0

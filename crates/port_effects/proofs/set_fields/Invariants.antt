@@ -1,11 +1,9 @@
 -- `port_effects::set_fields` meets its contract. The loop's invariant: the values left, on the copy so far, come to the whole. Assumes nothing.
-use native.Mathlib.Omega.{arith}
 use Prim.Native.Nat.{◌-◌}
-use mathlib.Core.Path.{◌≡◌, refl, ◌∙◌}
+use mathlib.Core.Path.{◌≡◌}
 use mathlib.Core.List.{foldl}
 use lib.ListN.{drop}
-use Rattle.lists.specs.Entries.{entry, entries_in}
-use Rattle.lists.proofs.Loops.{each_goes, each_ends}
+use Rattle.lists.specs.Entries.{entries_in}
 use Rattle.port_effects.specs.Parts.{set_port_byte}
 use Rattle.port_effects.proofs.set_fields.Given as goal
 

@@ -1,11 +1,8 @@
 -- `preset_effects::all_ready` meets its contract. The loop's invariant: the bytes left decide. Assumes nothing.
-use Prim.Native.Nat.{◌≤◌, ◌-◌}
 use native.Mathlib.Omega.{arith}
-use mathlib.Core.Path.{◌≡◌, refl, sym, ◌∙◌}
-use lib.ListN.{length, drop, drop_of_length-le}
-use Rattle.lists.specs.Tests.{all}
+use mathlib.Core.Path.{sym, ◌∙◌}
+use lib.ListN.{drop_of_length-le}
 use Rattle.lists.proofs.Choices.{all_goes, all_stops, all_ends}
-use Rattle.model.specs.Outputs.{preset_ready}
 use Rattle.lists.proofs.ChunkLaws.{rest_first}
 use Rattle.preset_effects.proofs.all_ready.Goals as goal
 

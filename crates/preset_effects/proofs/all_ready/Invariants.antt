@@ -1,12 +1,9 @@
 -- `preset_effects::all_ready` meets its contract. The loop's invariant: the bytes left decide. Assumes nothing.
 use Prim.Native.Nat.{◌≤◌, ◌-◌}
-use native.Mathlib.Omega.{arith}
-use mathlib.Core.Path.{◌≡◌, refl, sym, ◌∙◌}
-use lib.ListN.{length, drop, drop_of_length-le}
+use mathlib.Core.Path.{◌≡◌}
+use lib.ListN.{length, drop}
 use Rattle.lists.specs.Tests.{all}
-use Rattle.lists.proofs.Choices.{all_goes, all_stops, all_ends}
 use Rattle.model.specs.Outputs.{preset_ready}
-use Rattle.lists.proofs.ChunkLaws.{rest_first}
 use Rattle.preset_effects.proofs.all_ready.Given as goal
 
 abbrev pub invariant-loop-i : goal.invariant-loop-i

@@ -1,13 +1,10 @@
 -- `preset_effects::all_settable` meets its contract. The loop's invariant: the bytes left decide. Assumes nothing.
 use Prim.Native.Nat.{◌≤◌, ◌-◌}
-use native.Mathlib.Omega.{arith}
-use mathlib.Core.Path.{◌≡◌, refl, sym, ◌∙◌}
+use mathlib.Core.Path.{◌≡◌}
 use lib.ListN.{length, drop}
 use Rattle.lists.specs.Tests.{all}
-use Rattle.lists.proofs.Choices.{all_goes, all_stops, all_ends}
 use Rattle.lists.specs.Chunks.{chunks}
 use Rattle.model.specs.Outputs.{preset_settable}
-use Rattle.lists.proofs.ChunkLaws.{triples_cons, triples_none}
 use Rattle.preset_effects.proofs.all_settable.Given as goal
 
 abbrev pub invariant-loop-i : goal.invariant-loop-i

@@ -1,13 +1,10 @@
 -- `preset_effects::set_presets` meets its contract. The loop's invariant: the items left, on the copy as it stands, come to all of them. Assumes nothing.
 use Prim.Native.Nat.{◌≤◌, ◌-◌}
-use native.Mathlib.Omega.{arith}
-use mathlib.Core.Path.{◌≡◌, refl, ◌∙◌}
+use mathlib.Core.Path.{◌≡◌}
 use mathlib.Core.List.{foldl}
 use lib.ListN.{length, drop}
-use Rattle.lists.proofs.Walks.{fold_turn}
 use Rattle.lists.specs.Chunks.{chunks}
 use Rattle.model.specs.Outputs.{set_preset}
-use Rattle.lists.proofs.ChunkLaws.{triples_cons, triples_none}
 use Rattle.preset_effects.proofs.set_presets.Given as goal
 
 abbrev pub invariant-loop-i : goal.invariant-loop-i

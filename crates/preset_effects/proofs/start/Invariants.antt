@@ -1,12 +1,9 @@
 -- `preset_effects::start` meets its contract. The loop's invariant: the items left, on the copy as it stands, come to all of them. Assumes nothing.
 use Prim.Native.Nat.{◌≤◌, ◌-◌}
-use native.Mathlib.Omega.{arith}
-use mathlib.Core.Path.{◌≡◌, refl, ◌∙◌}
+use mathlib.Core.Path.{◌≡◌}
 use mathlib.Core.List.{foldl}
-use lib.ListN.{length, drop, drop_of_length-le}
-use Rattle.lists.proofs.Walks.{fold_turn}
+use lib.ListN.{length, drop}
 use Rattle.model.specs.Outputs.{start_preset}
-use Rattle.lists.proofs.ChunkLaws.{rest_first}
 use Rattle.preset_effects.proofs.start.Given as goal
 
 abbrev pub invariant-loop-i : goal.invariant-loop-i

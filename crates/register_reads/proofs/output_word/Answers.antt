@@ -1,5 +1,4 @@
 -- `register_reads::output_word` meets its contract: FF or 00 above the time. Assumes nothing.
-use borrow.Author.Rules.{rules}
 use native.Mathlib.Omega.{arith}
 use Rattle.model.specs.Registers.{output_word}
 use Rattle.register_reads.proofs.output_word.Goals as goal

@@ -1,13 +1,8 @@
 -- `register_reads::output_words` meets its contract. The loop's invariant: the words before `i`, then zeros. Assumes nothing.
-use borrow.Author.Rules.{rules}
-use native.Mathlib.Omega.{arith}
 use Prim.Native.Nat.{◌-◌}
-use mathlib.Core.Path.{◌≡◌, refl, sym, ◌∙◌}
 use mathlib.Core.List.{map}
-use lib.ListN.{length, length-map}
-use Rattle.lists.proofs.DataLaws.{Made, made_turn, made_all}
+use Rattle.lists.proofs.DataLaws.{Made}
 use Rattle.model.specs.Registers.{output_word}
-use Rattle.register_reads.proofs.Groups.{word_of}
 use Rattle.register_reads.proofs.output_words.Given as goal
 
 abbrev pub invariant-loop-i : goal.invariant-loop-i

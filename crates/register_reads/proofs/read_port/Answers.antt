@@ -1,5 +1,4 @@
 -- `register_reads::read_port` meets its contract: the first two of the words. Assumes nothing.
-use borrow.Author.Rules.{rules}
 use native.Mathlib.Omega.{arith}
 use mathlib.Core.Path.{◌∙◌}
 use lib.ListN.{replicate}

@@ -1,5 +1,4 @@
 -- `register_reads::read_thermostat` meets its contract: the four registers of one thermostat, or 9. Assumes nothing.
-use native.Mathlib.Omega.{arith}
 use mathlib.Core.Path.{◌≡◌, sym, ◌∙◌}
 use mathlib.Core.Bool.{false}
 use Rattle.model.specs.Refusals.{judged}

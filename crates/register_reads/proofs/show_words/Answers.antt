@@ -1,11 +1,9 @@
 -- `register_reads::show_words` meets its contract. The loop's invariant: the words left, after the reply so far, come to the whole. Assumes nothing.
 use borrow.Author.Rules.{rules}
 use native.Mathlib.Omega.{arith}
-use Prim.Native.Nat.{◌+◌, ◌*◌, ◌-◌, ◌<◌, ◌≤◌}
-use mathlib.Core.Path.{◌≡◌, refl, sym, ◌∙◌}
-use mathlib.Core.List.{flat_map}
+use Prim.Native.Nat.{◌+◌, ◌*◌, ◌<◌, ◌≤◌}
+use mathlib.Core.Path.{◌≡◌, sym, ◌∙◌}
 use lib.ListN.{length, take, drop}
-use Rattle.lists.specs.Data.{extended}
 use Rattle.lists.specs.Numbers.{bytes}
 use Rattle.register_reads.proofs.Groups.{words_data}
 use Rattle.lists.proofs.Parts.{part_length, part_word}

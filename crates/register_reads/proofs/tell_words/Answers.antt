@@ -1,9 +1,7 @@
 -- `register_reads::tell_words` meets its contract: outside the group, or the words. Assumes nothing.
-use native.Mathlib.Omega.{arith}
 use mathlib.Core.Path.{sym, ◌∙◌}
 use Rattle.model.specs.Refusals.{judged}
 use Rattle.model.specs.Registers.{read_words}
-use Rattle.groups.proofs.Inside.{inside}
 use Rattle.register_reads.proofs.tell_words.Goals as goal
 
 pub returns-then-is_outside : goal.returns-then-is_outside

@@ -1,10 +1,6 @@
 -- `replies::exception_reply` meets its contract. Assumes nothing.
-use mathlib.Core.Path.{◌≡◌}
-use lib.ListN.{length, length-take, length-set}
-use native.Mathlib.Omega.{arith}
 use Rattle.lists.specs.Data.{padded}
 use Rattle.model.specs.Frames.{with_crc}
-use borrow.Author.Rules.{rules}
 use Rattle.replies.proofs.exception_reply.Goals as goal
 
 pub returns : goal.returns

@@ -1,7 +1,6 @@
 -- `replies::modbus_head` meets its contract. Assumes nothing.
 use mathlib.Core.Path.{refl}
 use Rattle.lists.specs.Data.{padded}
-use borrow.Author.Rules.{rules}
 use Rattle.replies.proofs.modbus_head.Goals as goal
 
 pub returns : goal.returns

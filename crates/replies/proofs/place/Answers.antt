@@ -1,10 +1,10 @@
 -- `replies::place` meets its contract. The loop's invariant: the first i bytes are stored. Assumes nothing.
-use Prim.Native.Nat.{suc, ◌+◌, ◌-◌, ◌<◌, ◌≤◌}
+use Prim.Native.Nat.{suc, ◌+◌, ◌<◌}
 use mathlib.Core.Path.{◌≡◌}
 use native.Mathlib.Omega.{arith}
 use borrow.Author.Rules.{rules}
 use lib.ListN.{length}
-use lib.Seq.{paste, paste-zero, paste-suc}
+use lib.Seq.{paste-suc}
 use Rattle.lists.proofs.DataLaws.{field_length}
 use Rattle.replies.proofs.place.Goals as goal
 use Rattle.replies.proofs.place.Goals.{Start}

@@ -1,11 +1,7 @@
 -- `replies::place` meets its contract. The loop's invariant: the first i bytes are stored. Assumes nothing.
-use Prim.Native.Nat.{suc, ◌+◌, ◌-◌, ◌<◌, ◌≤◌}
+use Prim.Native.Nat.{◌-◌, ◌≤◌}
 use mathlib.Core.Path.{◌≡◌}
-use native.Mathlib.Omega.{arith}
-use borrow.Author.Rules.{rules}
-use lib.ListN.{length}
-use lib.Seq.{paste, paste-zero, paste-suc}
-use Rattle.lists.proofs.DataLaws.{field_length}
+use lib.Seq.{paste}
 use Rattle.replies.proofs.place.Given as goal
 
 abbrev pub invariant-loop-i : goal.invariant-loop-i

@@ -5,7 +5,6 @@ use native.Mathlib.Omega.{arith}
 use Rattle.lists.specs.Data.{padded}
 use Rattle.lists.specs.Numbers.{bytes}
 use Rattle.replies.specs.Replies.{spinel_head}
-use borrow.Author.Rules.{rules}
 use Rattle.replies.proofs.spinel_head.Goals as goal
 
 pub returns : goal.returns

@@ -1,7 +1,6 @@
 -- `replies::spinel_reply` meets its contract. Assumes nothing.
 use mathlib.Core.Path.{◌≡◌}
-use native.Mathlib.Omega.{arith}
-use lib.ListN.{length, length-take}
+use lib.ListN.{length}
 use Rattle.lists.proofs.DataLaws.{field_length}
 use Rattle.replies.proofs.Framing.{spinel_stored}
 use borrow.Author.Rules.{rules}

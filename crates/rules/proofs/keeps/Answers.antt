@@ -1,5 +1,4 @@
 -- `rules::keeps` meets its contract. Assumes nothing.
-use borrow.Author.Rules.{rules}
 use Rattle.model.specs.Counters.{mode_settable}
 use Rattle.model.specs.Registers.{is_zero}
 use Rattle.rules.proofs.keeps.Goals as goal

@@ -1,14 +1,12 @@
 -- `rules::named_from` meets its contract. The loop's invariant: among those left the number is found exactly where it is among all from the place on. Assumes nothing.
-use native.Mathlib.Omega.{arith}
-use Prim.Native.Nat.{ℕ, ◌-◌}
+use Prim.Native.Nat.{ℕ}
 use mathlib.Core.Bool.{Bool}
-use mathlib.Core.Path.{◌≡◌, refl, ◌∙◌}
+use mathlib.Core.Path.{refl, ◌∙◌}
 use lib.Dec.{eqb}
-use lib.ListN.{drop}
 use borrow.Author.Tests.{eq-eqb, ne_eqb}
 use Rattle.lists.specs.Tests.{any}
 use Rattle.lists.specs.declared.Entry.{Entry}
-use Rattle.lists.specs.Entries.{entry, entries_in}
+use Rattle.lists.specs.Entries.{entry}
 use Rattle.lists.proofs.Loops.{find_goes, find_stops, find_ends}
 use Rattle.rules.proofs.named_from.Goals as goal
 

@@ -1,15 +1,8 @@
 -- `rules::named_twice` meets its contract. The loop's invariant: a number stands twice among those left exactly where one does among all. Assumes nothing.
-use native.Mathlib.Omega.{arith}
 use Prim.Native.Nat.{◌-◌}
-use mathlib.Core.Bool.{Bool, true, false, cond, ◌||◌}
-use mathlib.Core.List.{List, ◌∷◌}
-use mathlib.Core.Path.{◌≡◌, refl, sym, ◌∙◌}
-use lib.Dec.{eqb}
+use mathlib.Core.Path.{◌≡◌}
 use lib.ListN.{drop}
-use Rattle.lists.specs.Tests.{any, twice}
-use Rattle.lists.specs.declared.Entry.{Entry}
-use Rattle.lists.specs.Entries.{entry, entries_in}
-use Rattle.lists.proofs.Loops.{find_goes, find_stops, find_ends}
+use Rattle.lists.specs.Entries.{entries_in}
 use Rattle.model.specs.Counters.{named_twice}
 use Rattle.rules.proofs.named_twice.Given as goal
 

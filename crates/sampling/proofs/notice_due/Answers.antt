@@ -1,5 +1,5 @@
 -- `sampling::notice_due` meets its contract. Assumes nothing.
-use borrow.Author.Tests.{not-true, not-false, eq-eqb, ne_eqb}
+use borrow.Author.Tests.{eq-eqb, ne_eqb}
 use Rattle.model.specs.Notice.{noticed}
 use Rattle.inputs.specs.Passes.{any_masked}
 use Rattle.sampling.proofs.notice_due.Goals as goal

@@ -1,11 +1,7 @@
 -- `script::blanks` meets its contract. The loop's invariant: those passed and those to come are all. Assumes nothing.
-use borrow.Author.Rules.{rules}
 use native.Mathlib.Omega.{arith}
-use Prim.Native.Nat.{◌≤◌, ◌-◌, ◌+◌}
-use mathlib.Core.Path.{◌≡◌, sym, ◌∙◌}
-use lib.ListN.{length, drop}
-use borrow.Author.Tests.{not-true, not-false}
-use Rattle.script.specs.Words.{blank, leading}
+use mathlib.Core.Path.{sym, ◌∙◌}
+use Rattle.script.specs.Words.{blank}
 use Rattle.script.proofs.Leading.{lead_goes, lead_stops, lead_ends}
 use Rattle.script.proofs.blanks.Goals as goal
 

@@ -1,12 +1,8 @@
 -- `script::blanks` meets its contract. The loop's invariant: those passed and those to come are all. Assumes nothing.
-use borrow.Author.Rules.{rules}
-use native.Mathlib.Omega.{arith}
 use Prim.Native.Nat.{◌≤◌, ◌-◌, ◌+◌}
-use mathlib.Core.Path.{◌≡◌, sym, ◌∙◌}
+use mathlib.Core.Path.{◌≡◌}
 use lib.ListN.{length, drop}
-use borrow.Author.Tests.{not-true, not-false}
 use Rattle.script.specs.Words.{blank, leading}
-use Rattle.script.proofs.Leading.{lead_goes, lead_stops, lead_ends}
 use Rattle.script.proofs.blanks.Given as goal
 
 abbrev pub invariant-loop-i : goal.invariant-loop-i

@@ -1,6 +1,5 @@
 -- `script::first_word` meets its contract. Assumes nothing.
 use native.Mathlib.Omega.{arith}
-use borrow.Author.Rules.{rules}
 use Rattle.script.specs.Words.{blank}
 use Rattle.script.proofs.Leading.{leading_le}
 use Rattle.script.proofs.Firsts.{used_law, used_le, first_law}

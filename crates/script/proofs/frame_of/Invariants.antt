@@ -1,12 +1,9 @@
 -- `script::frame_of` meets its contract. The loop's invariant: the words left, after the bytes so far, come to the whole. Assumes nothing.
-use borrow.Author.Rules.{rules}
-use native.Mathlib.Omega.{arith}
 use Prim.Native.Nat.{◌≤◌, ◌-◌}
-use mathlib.Core.Path.{◌≡◌, sym, ◌∙◌}
+use mathlib.Core.Path.{◌≡◌}
 use lib.ListN.{length, drop}
 use Rattle.script.specs.Words.{parts}
 use Rattle.script.specs.Lines.{of_kind, framed}
-use Rattle.script.proofs.Frames.{frame_over, frame_full, frame_bad, frame_goes, frame_ends, step_fits, step_some}
 use Rattle.script.proofs.frame_of.Given as goal
 
 abbrev pub invariant-loop-i : goal.invariant-loop-i

@@ -1,5 +1,4 @@
 -- `script::keyword_of` meets its contract. Assumes nothing.
-use borrow.Author.Rules.{rules}
 use mathlib.Core.Path.{sym, ◌∙◌}
 use Rattle.script.specs.Lines.{keyword}
 use Rattle.script.proofs.keyword_of.Goals as goal

@@ -1,7 +1,6 @@
 -- `script::rest_of` meets its contract. Assumes nothing.
 use mathlib.Core.Path.{ap, ◌∙◌}
 use lib.ListN.{drop}
-use borrow.Author.Rules.{rules}
 use Rattle.script.specs.Words.{rest_of}
 use Rattle.lists.proofs.ChunkLaws.{rest_whole}
 use Rattle.script.proofs.Firsts.{used_le}

@@ -1,9 +1,5 @@
 -- `script::sampled_of` meets its contract. Assumes nothing.
-use borrow.Author.Rules.{rules}
-use native.Mathlib.Omega.{arith}
-use borrow.Author.Tests.{lt-ltb, le-ltb, ltb-false}
-use lib.Dec.{eqb}
-use Rattle.lists.proofs.Choices.{or_right}
+use borrow.Author.Tests.{lt-ltb, le-ltb}
 use Rattle.script.specs.Lines.{sampled}
 use Rattle.script.proofs.sampled_of.Goals as goal
 

@@ -1,12 +1,8 @@
 -- `script::solids` meets its contract. The loop's invariant: those passed and those to come are all. Assumes nothing.
-use borrow.Author.Rules.{rules}
-use native.Mathlib.Omega.{arith}
 use Prim.Native.Nat.{◌≤◌, ◌-◌, ◌+◌}
-use mathlib.Core.Path.{◌≡◌, sym, ap, ◌∙◌}
+use mathlib.Core.Path.{◌≡◌}
 use lib.ListN.{length, drop}
-use mathlib.Core.Bool.{not}
 use Rattle.script.specs.Words.{solid, leading}
-use Rattle.script.proofs.Leading.{lead_goes, lead_stops, lead_ends}
 use Rattle.script.proofs.solids.Given as goal
 
 abbrev pub invariant-loop-i : goal.invariant-loop-i

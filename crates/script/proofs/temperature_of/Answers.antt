@@ -1,6 +1,5 @@
 -- `script::temperature_of` meets its contract. Assumes nothing.
 use mathlib.Core.Path.{sym, ◌∙◌}
-use borrow.Author.Tests.{not-true, not-false}
 use Rattle.script.proofs.Calls.{temperature_none, temperature_many, temperature_fault, temperature_good}
 use Rattle.script.proofs.temperature_of.Goals as goal
 

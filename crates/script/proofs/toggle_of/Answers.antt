@@ -1,6 +1,5 @@
 -- `script::toggle_of` meets its contract. Assumes nothing.
 use mathlib.Core.Path.{sym, ◌∙◌}
-use borrow.Author.Tests.{not-true, not-false}
 use Rattle.script.proofs.Calls.{toggle_few, toggle_three, toggle_many}
 use Rattle.script.proofs.toggle_of.Goals as goal
 

@@ -1,7 +1,4 @@
 -- `script::without_cr` meets its contract. Assumes nothing.
-use borrow.Author.Rules.{rules}
-use native.Mathlib.Omega.{arith}
-use lib.ListN.{length-take}
 use Rattle.script.proofs.Bodies.{uncr_empty, uncr_cut, uncr_other}
 use Rattle.script.proofs.without_cr.Goals as goal
 

@@ -1,9 +1,9 @@
 -- `setpoints::from_groups` meets its contract. The loop's invariant: the groups decoded so far, and the rest as it was. Assumes nothing.
 use native.Mathlib.Omega.{arith}
-use Prim.Native.Nat.{ℕ, ◌+◌, ◌*◌, ◌-◌, ◌<◌, ◌≤◌}
+use Prim.Native.Nat.{ℕ, ◌+◌, ◌*◌, ◌<◌, ◌≤◌}
 use mathlib.Core.Path.{◌≡◌, refl, ◌∙◌}
-use mathlib.Core.List.{List, ◌++◌, map}
-use lib.ListN.{length, take, drop, replicate}
+use mathlib.Core.List.{List, map}
+use lib.ListN.{length, take, replicate}
 use lib.Seq.{take-length}
 use Rattle.lists.specs.Chunks.{chunks}
 use Rattle.lists.proofs.ChunkLaws.{rest_whole}

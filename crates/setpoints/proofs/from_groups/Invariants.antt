@@ -1,16 +1,11 @@
 -- `setpoints::from_groups` meets its contract. The loop's invariant: the groups decoded so far, and the rest as it was. Assumes nothing.
-use native.Mathlib.Omega.{arith}
-use Prim.Native.Nat.{ℕ, ◌+◌, ◌*◌, ◌-◌, ◌<◌, ◌≤◌}
-use mathlib.Core.Path.{◌≡◌, refl, ◌∙◌}
+use Prim.Native.Nat.{ℕ, ◌-◌, ◌≤◌}
+use mathlib.Core.Path.{◌≡◌}
 use mathlib.Core.List.{List, ◌++◌, map}
 use lib.ListN.{length, take, drop, replicate}
-use lib.Seq.{take-length}
 use Rattle.lists.specs.Chunks.{chunks}
-use Rattle.lists.proofs.ChunkLaws.{rest_whole}
-use Rattle.lists.proofs.DataLaws.{over_turn}
 use Rattle.setpoints.specs.declared.Setpoint.{Setpoint}
-use Rattle.setpoints.specs.Setpoints.{no_setpoint, group_setpoint, setpoints_of}
-use Rattle.setpoints.proofs.Decoded.{twelve_length, twelve_counted, group_place}
+use Rattle.setpoints.specs.Setpoints.{no_setpoint, group_setpoint}
 use Rattle.setpoints.proofs.from_groups.Given as goal
 
 abbrev twelve : List ℕ → List Setpoint

@@ -1,5 +1,4 @@
 -- `setpoints::from_registers` meets its contract. Assumes nothing.
-use borrow.Author.Rules.{rules}
 use Rattle.setpoints.specs.Setpoints.{register_setpoint, setpoints_of}
 use Rattle.setpoints.proofs.from_registers.Goals as goal
 

@@ -1,5 +1,4 @@
 -- `short_buffers::attempts` meets its contract. Assumes nothing.
-use native.Mathlib.Omega.{arith}
 use Rattle.model.specs.Calls.{run, step}
 use Rattle.short_buffers.proofs.attempts.Goals as goal
 

@@ -1,11 +1,6 @@
 -- `short_buffers::kept` meets its contract. The loop's invariant: those passed and those to come are all. Assumes nothing.
-use borrow.Author.Rules.{rules}
 use native.Mathlib.Omega.{arith}
-use Prim.Native.Nat.{◌≤◌, ◌-◌, ◌+◌}
-use mathlib.Core.Path.{◌≡◌}
-use lib.ListN.{length, drop}
 use borrow.Author.Tests.{eq-eqb, ne_eqb}
-use Rattle.short_buffers.specs.Tries.{kept_of}
 use Rattle.short_buffers.proofs.Laws.{kept_turn, kept_none}
 use Rattle.short_buffers.proofs.kept.Goals as goal
 use Rattle.short_buffers.proofs.kept.Goals.{then-b-i, else-b-i}

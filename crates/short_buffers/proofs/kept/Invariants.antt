@@ -1,13 +1,8 @@
 -- `short_buffers::kept` meets its contract. The loop's invariant: those passed and those to come are all. Assumes nothing.
-use borrow.Author.Rules.{rules}
-use native.Mathlib.Omega.{arith}
 use Prim.Native.Nat.{◌≤◌, ◌-◌, ◌+◌}
 use mathlib.Core.Path.{◌≡◌}
-use mathlib.Core.Logic.{⊎_elim}
 use lib.ListN.{length, drop}
-use borrow.Author.Tests.{eq-eqb, ne_eqb}
 use Rattle.short_buffers.specs.Tries.{kept_of}
-use Rattle.short_buffers.proofs.Laws.{kept_turn, kept_none}
 use Rattle.short_buffers.proofs.kept.Given as goal
 
 abbrev pub invariant-loop-i : goal.invariant-loop-i

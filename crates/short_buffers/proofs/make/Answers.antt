@@ -1,5 +1,4 @@
 -- `short_buffers::make` meets its contract. Assumes nothing.
-use borrow.Author.Rules.{rules}
 use Rattle.short_buffers.specs.Tries.{act_of}
 use Rattle.short_buffers.proofs.make.Goals as goal
 

@@ -1,5 +1,4 @@
 -- `spinel::act` meets its contract. Assumes nothing.
-use borrow.Author.Rules.{rules}
 use mathlib.Core.Path.{◌∙◌}
 use Rattle.model.specs.Wire.{used_up, frame_acted}
 use Rattle.model.specs.Spinel.{spinel_request, spinel_wire}

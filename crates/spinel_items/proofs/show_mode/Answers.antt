@@ -1,6 +1,5 @@
 -- `spinel_items::show_mode` meets its contract: the flags decide. Assumes nothing.
 use mathlib.Core.Path.{sym, ◌∙◌}
-use borrow.Author.Rules.{rules}
 use Rattle.lists.specs.Data.{extended}
 use Rattle.model.specs.Outputs.{mode_byte}
 use Rattle.spinel_items.proofs.show_mode.Goals as goal

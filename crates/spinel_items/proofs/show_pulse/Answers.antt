@@ -1,11 +1,6 @@
 -- `spinel_items::show_pulse` meets its contract: a set byte fits, since no output past the sixteenth is on. Assumes nothing.
-use native.Mathlib.Omega.{arith}
-use mathlib.Core.Path.{◌≡◌}
-use borrow.Author.Rules.{rules}
-use lib.ListN.{length}
 use Rattle.lists.specs.Data.{extended}
 use Rattle.model.specs.Outputs.{pulse_shown}
-use Rattle.spinel_items.proofs.Laws.{set-fits}
 use Rattle.spinel_items.proofs.show_pulse.Goals as goal
 
 pub returns : goal.returns

@@ -1,12 +1,10 @@
 -- `spinel_reads::output_bits` meets its contract. The loop goes from the last output down; its invariant: `bits` is the number of the states from `i` on. Assumes nothing.
 use Prim.Native.Nat.{◌-◌, ◌≤◌}
 use native.Mathlib.Omega.{arith}
-use mathlib.Core.Path.{◌≡◌, ◌∙◌}
+use mathlib.Core.Path.{◌≡◌}
 use mathlib.Core.Bool.{Bool}
-use mathlib.Core.List.{map}
 use borrow.Author.Rules.{rules}
-use lib.ListN.{length, get_or, drop}
-use Rattle.lists.specs.Numbers.{bits_number}
+use lib.ListN.{length, get_or}
 use Rattle.lists.proofs.Bits.{bits_turn, bits_half, bits_none, byte_most}
 use Rattle.model.specs.declared.Output.{Output}
 use Rattle.model.specs.State.{fresh_output}

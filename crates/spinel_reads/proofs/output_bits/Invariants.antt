@@ -1,15 +1,11 @@
 -- `spinel_reads::output_bits` meets its contract. The loop goes from the last output down; its invariant: `bits` is the number of the states from `i` on. Assumes nothing.
-use Prim.Native.Nat.{◌-◌, ◌≤◌}
-use native.Mathlib.Omega.{arith}
-use mathlib.Core.Path.{◌≡◌, ◌∙◌}
+use Prim.Native.Nat.{◌≤◌}
+use mathlib.Core.Path.{◌≡◌}
 use mathlib.Core.Bool.{Bool}
 use mathlib.Core.List.{map}
-use borrow.Author.Rules.{rules}
-use lib.ListN.{length, get_or, drop}
+use lib.ListN.{drop}
 use Rattle.lists.specs.Numbers.{bits_number}
-use Rattle.lists.proofs.Bits.{bits_turn, bits_half, bits_none, byte_most}
 use Rattle.model.specs.declared.Output.{Output}
-use Rattle.model.specs.State.{fresh_output}
 use Rattle.spinel_reads.proofs.output_bits.Given as goal
 
 abbrev on : Output → Bool

@@ -3,7 +3,7 @@ use native.Mathlib.Omega.{arith}
 use mathlib.Core.Path.{sym, ◌∙◌}
 use mathlib.Core.Bool.{true, false}
 use lib.ListN.{length}
-use borrow.Author.Tests.{not-true, not-false, le-leb, lt-leb}
+use borrow.Author.Tests.{le-leb, lt-leb}
 use Rattle.model.specs.Refusals.{judged}
 use Rattle.model.specs.Temperature.{read_thermostats}
 use Rattle.spinel_reads.proofs.ListReads.{groups_fit, named_numbers}

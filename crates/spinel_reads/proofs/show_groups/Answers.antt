@@ -1,5 +1,4 @@
 -- `spinel_reads::show_groups` meets its contract. Assumes nothing.
-use borrow.Author.Rules.{rules}
 use borrow.Author.Tests.{eq-eqb, ne_eqb}
 use Rattle.spinel_reads.specs.Shown.{all_if_none}
 use Rattle.spinel_reads.proofs.show_groups.Goals as goal

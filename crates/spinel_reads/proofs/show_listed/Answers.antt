@@ -1,11 +1,8 @@
 -- `spinel_reads::show_listed` meets its contract. The loop's invariant: the numbers left, after the reply so far, come to the whole. Assumes nothing.
-use borrow.Author.Rules.{rules}
 use native.Mathlib.Omega.{arith}
-use Prim.Native.Nat.{◌<◌, ◌≤◌, ◌-◌}
-use mathlib.Core.Path.{◌≡◌, refl, sym, ◌∙◌}
-use mathlib.Core.List.{flat_map}
-use lib.ListN.{length, drop}
-use Rattle.lists.specs.Data.{extended}
+use Prim.Native.Nat.{◌<◌, ◌≤◌}
+use mathlib.Core.Path.{sym, ◌∙◌}
+use lib.ListN.{length}
 use Rattle.model.specs.Counters.{listed}
 use Rattle.spinel_reads.specs.Shown.{shown_bytes}
 use Rattle.lists.proofs.DataLaws.{shown_turn, shown_end}

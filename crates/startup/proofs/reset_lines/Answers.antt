@@ -1,9 +1,8 @@
 -- `startup::reset_lines` meets its contract. Assumes nothing.
 use borrow.Author.Rules.{rules}
-use Prim.Native.Nat.{◌-◌, ◌≤◌, ◌<◌}
+use Prim.Native.Nat.{◌<◌}
 use mathlib.Core.Path.{◌≡◌, sym, ◌∙◌}
 use lib.ListN.{length}
-use Rattle.lists.specs.Mapi.{done}
 use Rattle.lists.proofs.Done.{done_none, done_turn, done_map}
 use Rattle.model.specs.declared.Line.{Line}
 use Rattle.model.specs.State.{line, fresh_line}

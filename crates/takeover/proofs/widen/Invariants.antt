@@ -1,10 +1,6 @@
 -- `takeover::widen` meets its contract. The loop's invariant: the counters before `i`, then zeros. Assumes nothing.
-use borrow.Author.Rules.{rules}
-use native.Mathlib.Omega.{arith}
 use Prim.Native.Nat.{◌-◌}
-use mathlib.Core.Path.{◌≡◌, refl}
-use lib.ListN.{length}
-use Rattle.lists.proofs.DataLaws.{Made, made_turn, made_all}
+use Rattle.lists.proofs.DataLaws.{Made}
 use Rattle.takeover.proofs.widen.Given as goal
 
 abbrev pub invariant-loop-i : goal.invariant-loop-i

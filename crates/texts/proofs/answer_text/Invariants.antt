@@ -1,14 +1,10 @@
 -- `texts::answer_text` meets its contract. The loop's invariant: what is stored is the number and the text of the bytes passed. Assumes nothing.
-use Prim.Native.Nat.{◌+◌, ◌*◌, ◌-◌, ◌<◌, ◌≤◌, min}
-use native.Mathlib.Omega.{arith}
-use mathlib.Core.Path.{◌≡◌, ap, ◌∙◌}
-use mathlib.Core.List.{◌++◌, append-nil}
+use Prim.Native.Nat.{◌+◌, ◌*◌, ◌-◌, ◌≤◌}
+use mathlib.Core.Path.{◌≡◌}
+use mathlib.Core.List.{◌++◌}
 use lib.ListN.{length, take}
 use Rattle.digits.specs.Writing.{decimal_text}
-use Rattle.digits.proofs.Characters.{length-decimal}
-use Rattle.texts.specs.Texts.{bytes_text, answer_text, text_of}
-use Rattle.texts.proofs.Stores.{stored_one, stored_byte, bytes_turn}
-use Rattle.lists.proofs.Parts.{take-most}
+use Rattle.texts.specs.Texts.{bytes_text, text_of}
 use Rattle.texts.proofs.answer_text.Given as goal
 
 abbrev pub invariant-loop-i : goal.invariant-loop-i

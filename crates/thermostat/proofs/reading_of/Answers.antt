@@ -5,7 +5,6 @@ use lib.IntN.{ℤ, pos, negsuc}
 use lib.Signed.{le_z}
 use mir.Facts.{to_z-of_z}
 use Rattle.model.specs.Temperature.{reading_of, degrees}
-use borrow.Author.Rules.{rules}
 use Rattle.thermostat.proofs.reading_of.Goals as goal
 
 -- a good mark, and tenths in range

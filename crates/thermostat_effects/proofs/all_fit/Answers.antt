@@ -1,10 +1,5 @@
 -- `thermostat_effects::all_fit` meets its contract. The loop's invariant: the setpoints left decide as the whole does. Assumes nothing.
-use native.Mathlib.Omega.{arith}
-use Prim.Native.Nat.{◌-◌}
-use mathlib.Core.Path.{◌≡◌, refl, sym, ◌∙◌}
-use lib.ListN.{take, drop}
-use borrow.Author.Tests.{not-true, not-false}
-use Rattle.lists.specs.Tests.{all}
+use mathlib.Core.Path.{sym, ◌∙◌}
 use Rattle.lists.proofs.Loops.{test_goes, test_stops, test_ends}
 use Rattle.setpoints.specs.Setpoints.{no_setpoint}
 use Rattle.thermostat_effects.specs.Parts.{setpoint_fits}

@@ -1,12 +1,8 @@
 -- `thermostat_effects::all_fit` meets its contract. The loop's invariant: the setpoints left decide as the whole does. Assumes nothing.
-use native.Mathlib.Omega.{arith}
 use Prim.Native.Nat.{◌-◌}
-use mathlib.Core.Path.{◌≡◌, refl, sym, ◌∙◌}
+use mathlib.Core.Path.{◌≡◌}
 use lib.ListN.{take, drop}
-use borrow.Author.Tests.{not-true, not-false}
 use Rattle.lists.specs.Tests.{all}
-use Rattle.lists.proofs.Loops.{test_goes, test_stops, test_ends}
-use Rattle.setpoints.specs.Setpoints.{no_setpoint}
 use Rattle.thermostat_effects.specs.Parts.{setpoint_fits}
 use Rattle.thermostat_effects.proofs.all_fit.Given as goal
 

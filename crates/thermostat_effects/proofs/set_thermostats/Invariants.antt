@@ -1,11 +1,8 @@
 -- `thermostat_effects::set_thermostats` meets its contract. The loop's invariant: the setpoints left, on the copy so far, come to the whole. Assumes nothing.
-use native.Mathlib.Omega.{arith}
 use Prim.Native.Nat.{◌-◌}
-use mathlib.Core.Path.{◌≡◌, refl, ◌∙◌}
+use mathlib.Core.Path.{◌≡◌}
 use mathlib.Core.List.{foldl}
 use lib.ListN.{take, drop}
-use Rattle.lists.proofs.Loops.{each_goes, each_ends}
-use Rattle.setpoints.specs.Setpoints.{no_setpoint}
 use Rattle.thermostat_effects.specs.Parts.{setpoint_put}
 use Rattle.thermostat_effects.proofs.set_thermostats.Given as goal
 
