@@ -1,5 +1,4 @@
 -- `iomodule::sample` meets its contract. Assumes nothing.
-use Prim.Native.Nat.{◌≤◌}
 use native.Mathlib.Omega.{arith}
 use mathlib.Core.Path.{refl, sym, ◌∙◌}
 use lib.ListN.{length}
@@ -7,10 +6,6 @@ use borrow.Author.Tests.{ltb-false}
 use Rattle.model.specs.Calls.{sampled, sample_call}
 use Rattle.iomodule.proofs.Frames.{sample_room, handled_short, handled_answered}
 use Rattle.iomodule.proofs.sample.Goals as goal
-use Rattle.iomodule.proofs.sample.Goals.{Else-is_short}
-
-enough : (c : Else-is_short) → 256 ≤ length c.args.reply.now
-enough c = ltb-false _ 256 (sym c.is_short.ensures ∙ c.if-is_short.false)
 
 pub returns-then-is_short : goal.returns-then-is_short
 unfolding sample_call
@@ -20,7 +15,7 @@ pub reply_out-requires : goal.reply_out-requires
 reply_out-requires c =
     let a = c.args in
     let short = handled_short (sampled a.bits a.m) c.handle.result c.handle.ensures (sample_room a.bits a.m) in
-    omega (arith, short, enough (goal.at.reply_out-requires c).Else-is_short)
+    omega (arith, short, ltb-false (length a.reply.now) 256 (sym c.is_short.ensures ∙ c.if-is_short.false))
 
 pub returns : goal.returns
 unfolding sample_call

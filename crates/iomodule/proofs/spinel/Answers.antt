@@ -1,5 +1,4 @@
 -- `iomodule::spinel` meets its contract. Assumes nothing.
-use Prim.Native.Nat.{◌≤◌}
 use native.Mathlib.Omega.{arith}
 use mathlib.Core.Path.{refl, sym, ◌∙◌}
 use lib.ListN.{length}
@@ -8,10 +7,6 @@ use Rattle.model.specs.Wire.{frame_handled, frame_call}
 use Rattle.model.specs.Spinel.{spinel_wire}
 use Rattle.iomodule.proofs.Frames.{spinel_room, handled_short, handled_answered}
 use Rattle.iomodule.proofs.spinel.Goals as goal
-use Rattle.iomodule.proofs.spinel.Goals.{Else-is_short}
-
-enough : (c : Else-is_short) → 256 ≤ length c.args.reply.now
-enough c = ltb-false _ 256 (sym c.is_short.ensures ∙ c.if-is_short.false)
 
 pub returns-then-is_short : goal.returns-then-is_short
 unfolding frame_call
@@ -21,7 +16,7 @@ pub reply_out-requires : goal.reply_out-requires
 reply_out-requires c =
     let a = c.args in
     let short = handled_short (frame_handled spinel_wire a.frame.now a.m) c.handle.result c.handle.ensures (spinel_room a.frame.now a.m) in
-    omega (arith, short, enough (goal.at.reply_out-requires c).Else-is_short)
+    omega (arith, short, ltb-false (length a.reply.now) 256 (sym c.is_short.ensures ∙ c.if-is_short.false))
 
 pub returns : goal.returns
 unfolding frame_call
