@@ -8,7 +8,7 @@ use mathlib.Core.List.{List, [], ◌∷◌}
 use lib.ListN.{length, take, drop, length-drop}
 use lib.Seq.{length-take-le}
 use Rattle.lists.specs.Data.{data_of, pushed}
-use Rattle.lists.specs.declared.Data.{Data}
+use Rattle.lists.specs.Data.{Data}
 use Rattle.lists.specs.Numbers.{bits_number}
 use Rattle.lists.proofs.DataLaws.{push_law}
 use Rattle.lists.proofs.Bits.{bits_drop, bits_take, bytes_of}

@@ -2,8 +2,7 @@
 use Rattle.std.specs.Prelude.{ℕ, ◌+◌, ◌/◌, ◌%◌, ◌^◌, List, [], ◌∷◌, take}
 use Rattle.model.specs.Refusals.{refuse, telling}
 use Rattle.model.specs.Registers.{bit_group, outside}
-use Rattle.encoding.specs.Answers.{told_of}
-use Rattle.encoding.specs.declared.Told.{Told}
+use Rattle.encoding.specs.Answers.{Told, told_of}
 
 -- n bits of a number from bit k on
 unfoldable pub part_of : ℕ → ℕ → ℕ → ℕ

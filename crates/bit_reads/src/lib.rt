@@ -3,23 +3,18 @@
 
 ghost use Rattle.std.specs.Prelude.{◌≡◌, ◌+◌, ◌^◌, ◌≤◌};
 ghost use Rattle.lists.specs.Data.{data_of};
+ghost use Rattle.encoding.specs.Answers.{told};
 ghost use Rattle.bit_reads.specs.Answers.{part_of, bits_shown, bits_told};
 
-use encoding::Told;
 use lists::Data;
+use model::Refusal;
 
 // A power of 2.
 fn power(n: u16) -> u32
     requires { n ≤ 16 }
     ensures { result ≡ 2 ^ n }
 {
-    let mut p: u32 = 1;
-    let mut i = 0u16;
-    while i < n {
-        p = p * 2;
-        i += 1;
-    }
-    p
+    1u32 << n
 }
 
 // n bits of a number from bit k on.
@@ -49,11 +44,12 @@ fn show_bits(v: u16, n: u16) -> Data
 }
 
 // n of sixteen coils or inputs from place k on; their states are the bits, the first lowest.
-pub fn read_bits(bits: u16, k: u16, n: u16) -> Told
-    ensures { result ≡ bits_told bits k n }
+pub fn read_bits(bits: u16, k: u16, n: u16) -> Result<Data, Refusal>
+    ensures { told result ≡ bits_told bits k n }
 {
-    if groups::is_outside(groups::BITS, k, n as usize) {
-        return encoding::refuse(9);
-    }
-    encoding::tell(show_bits(bits_part(bits, k, n), n))
+    encoding::refused_if(
+        groups::is_outside(groups::BITS, k, usize::from(n)),
+        Refusal::Range,
+    )?;
+    Ok(show_bits(bits_part(bits, k, n), n))
 }

@@ -8,11 +8,9 @@ ghost use Rattle.model.specs.Frames.{total, sum_of, crc_bit, crc_byte, crc_of};
 pub fn byte_sum(s: &[u8]) -> u8
     ensures { result ≡ total s.now % 256 }
 {
-    let mut sum: u8 = 0;
-    let mut i = 0;
-    while i < s.len() {
-        sum = std::num::wrapping_add_u8(sum, s[i]);
-        i += 1;
+    let mut sum = 0u8;
+    for b in s {
+        sum = sum.wrapping_add(*b);
     }
     sum
 }
@@ -35,11 +33,9 @@ pub fn crc_bit(c: u16) -> u16
 pub fn crc_byte(c: u16, b: u8) -> u16
     ensures { result ≡ crc_byte c b }
 {
-    let mut x = c ^ (b as u16);
-    let mut i: u8 = 0;
-    while i < 8 {
+    let mut x = c ^ u16::from(b);
+    for _bit in 0..8u8 {
         x = crc_bit(x);
-        i += 1;
     }
     x
 }
@@ -49,10 +45,8 @@ pub fn crc16(s: &[u8]) -> u16
     ensures { result ≡ crc_of s.now }
 {
     let mut c: u16 = 0xFFFF;
-    let mut i = 0;
-    while i < s.len() {
-        c = crc_byte(c, s[i]);
-        i += 1;
+    for b in s {
+        c = crc_byte(c, *b);
     }
     c
 }

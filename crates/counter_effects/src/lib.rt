@@ -4,23 +4,22 @@
 ghost use Rattle.std.specs.Prelude.{◌≡◌, cond, not, ℕ};
 ghost use mathlib.Core.List.{List, foldl};
 ghost use Rattle.lists.specs.Tests.{all};
-ghost use Rattle.lists.specs.Entries.{entries_in};
+ghost use Rattle.model.specs.Numbers.{refused_by};
 ghost use Rattle.model.specs.Refusals.{refusal_of};
 ghost use Rattle.model.specs.Counters.{deductible, deduct_one, deduct};
 ghost use Rattle.model.specs.Counters.{set_modes, set_sampling, read_sampling};
 ghost use Rattle.model.specs.Registers.{is_zero, clear_one};
-ghost use Rattle.encoding.specs.Answers.{told_of};
+ghost use Rattle.encoding.specs.Answers.{told, told_of};
 ghost use Rattle.counter_effects.specs.Answers.{set_mode_byte};
 
-use encoding::Told;
-use lists::{Entries, Entry};
-use rules::Rule;
+use lists::{Data, Entry};
+use model::Refusal;
 
 // Whether a deduction has the number of an input and is at most its counter.
 fn is_covered(cs: [u32; 16], e: Entry) -> bool
     ensures { result ≡ deductible cs e }
 {
-    let have = encoding::counter_at(cs, entries::place(e));
+    let have = encoding::element(&cs, entries::place(e), 0);
     entries::is_numbered(e) & (e.value <= have)
 }
 
@@ -29,65 +28,53 @@ fn deduct_one(cs: [u32; 16], e: Entry) -> [u32; 16]
     ensures { result ≡ deduct_one cs e }
 {
     let k = entries::place(e);
-    let have = encoding::counter_at(cs, k);
-    encoding::with_counter(cs, k, encoding::less(have, e.value))
+    let have = encoding::element(&cs, k, 0);
+    encoding::with_element(cs, k, have.saturating_sub(e.value))
 }
 
-// Whether every deduction is covered.
-fn covers(cs: [u32; 16], es: Entries) -> bool
-    ensures { result ≡ all (deductible cs) (entries_in es) }
+// Why deductions are refused: each must be covered.
+pub fn deduct_refusal(cs: [u32; 16], es: &[Entry]) -> Result<(), Refusal>
+    ensures { refused_by result ≡ refusal_of (deduct es.now cs) }
 {
-    let n = entries::count(es);
-    let mut i = 0;
-    while i < n {
-        if !is_covered(cs, entries::entry_at(es, i)) {
-            return false;
-        }
-        i += 1;
-    }
-    true
-}
-
-// Why deductions are refused, or 0.
-pub fn deduct_refusal(cs: [u32; 16], es: Entries) -> u8
-    ensures { result ≡ refusal_of (deduct (entries_in es) cs) }
-{
-    encoding::refused_if(!covers(cs, es), 11, 0)
+    let covered = es.iter().all(|e| is_covered(cs, *e));
+    encoding::refused_if(!covered, Refusal::Value)
 }
 
 // The counters after the deductions.
-pub fn deduct(cs: [u32; 16], es: Entries) -> [u32; 16]
-    ensures { result ≡ foldl deduct_one cs (entries_in es) }
+pub fn deduct(cs: [u32; 16], es: &[Entry]) -> [u32; 16]
+    ensures { result ≡ foldl deduct_one cs es.now }
 {
-    let n = entries::count(es);
     let mut copy = cs;
-    let mut i = 0;
-    while i < n {
-        let next = deduct_one(copy, entries::entry_at(es, i));
+    for e in es {
+        let next = deduct_one(copy, *e);
         copy = next;
-        i += 1;
     }
     copy
 }
 
-// Why values written to counters are refused, or 0: a counter can only be cleared.
-pub fn clear_refusal(es: Entries) -> u8
-    ensures { result ≡ cond (not (all is_zero (entries_in es))) 11 0 }
+// Why values written to counters are refused: a counter can only be cleared.
+pub fn clear_refusal(es: &[Entry]) -> Result<(), Refusal>
+    ensures { refused_by result ≡ cond (not (all is_zero es.now)) 11 0 }
 {
-    encoding::refused_if(!rules::all_keep(Rule::Zero, es), 11, 0)
+    let zeros = es.iter().all(|e| rules::is_zero(*e));
+    encoding::refused_if(!zeros, Refusal::Value)
+}
+
+// The counters with the one that is named at 0.
+fn clear_one(cs: [u32; 16], e: Entry) -> [u32; 16]
+    ensures { result ≡ clear_one cs e }
+{
+    encoding::with_element(cs, entries::place(e), 0)
 }
 
 // The counters with each that is named at 0.
-pub fn clear(cs: [u32; 16], es: Entries) -> [u32; 16]
-    ensures { result ≡ foldl clear_one cs (entries_in es) }
+pub fn clear(cs: [u32; 16], es: &[Entry]) -> [u32; 16]
+    ensures { result ≡ foldl clear_one cs es.now }
 {
-    let n = entries::count(es);
     let mut copy = cs;
-    let mut i = 0;
-    while i < n {
-        let next = encoding::with_counter(copy, entries::place(entries::entry_at(es, i)), 0);
+    for e in es {
+        let next = clear_one(copy, *e);
         copy = next;
-        i += 1;
     }
     copy
 }
@@ -96,48 +83,41 @@ pub fn clear(cs: [u32; 16], es: Entries) -> [u32; 16]
 fn set_mode(ms: [u8; 16], e: Entry) -> [u8; 16]
     ensures { result ≡ set_mode_byte ms e }
 {
-    encoding::with_byte(ms, entries::place(e), entries::byte(e))
+    encoding::with_element(ms, entries::place(e), entries::byte(e))
 }
 
-// Why settings of modes are refused, or 0, whatever the modes.
-pub fn modes_refusal(es: Entries) -> u8
-    ensures { (ms : List ℕ) → result ≡ refusal_of (set_modes (entries_in es) ms) }
+// Why settings of modes are refused, whatever the modes.
+pub fn modes_refusal(es: &[Entry]) -> Result<(), Refusal>
+    ensures { (ms : List ℕ) → refused_by result ≡ refusal_of (set_modes es.now ms) }
 {
-    encoding::refused_if(!rules::all_keep(Rule::Mode, es), 11, 0)
+    let settable = es.iter().all(|e| rules::is_mode_setting(*e));
+    encoding::refused_if(!settable, Refusal::Value)
 }
 
 // The modes after the settings.
-pub fn set_modes(ms: [u8; 16], es: Entries) -> [u8; 16]
-    ensures { result ≡ foldl set_mode_byte ms (entries_in es) }
+pub fn set_modes(ms: [u8; 16], es: &[Entry]) -> [u8; 16]
+    ensures { result ≡ foldl set_mode_byte ms es.now }
 {
-    let n = entries::count(es);
     let mut copy = ms;
-    let mut i = 0;
-    while i < n {
-        let next = set_mode(copy, entries::entry_at(es, i));
+    for e in es {
+        let next = set_mode(copy, *e);
         copy = next;
-        i += 1;
     }
     copy
 }
 
-// 62H: why a sampling number is refused, or 0.
-pub fn sampling_refusal(d: &[u8]) -> u8
-    ensures { result ≡ refusal_of (set_sampling d.now) }
+// 62H: why a sampling number is refused.
+pub fn sampling_refusal(d: &[u8]) -> Result<(), Refusal>
+    ensures { refused_by result ≡ refusal_of (set_sampling d.now) }
 {
-    encoding::refused_if(
-        d.len() != 1,
-        8,
-        encoding::refused_if(encoding::at(d, 0) < 1, 11, 0),
-    )
+    encoding::refused_if(d.len() != 1, Refusal::DataLength)?;
+    encoding::refused_if(encoding::at(d, 0) < 1, Refusal::Value)
 }
 
 // 63H: read it.
-pub fn read_sampling(sampling: u8, d: &[u8]) -> Told
-    ensures { result ≡ told_of (read_sampling d.now sampling) }
+pub fn read_sampling(sampling: u8, d: &[u8]) -> Result<Data, Refusal>
+    ensures { told result ≡ told_of (read_sampling d.now sampling) }
 {
-    if d.len() != 0 {
-        return encoding::refuse(8);
-    }
-    encoding::tell(encoding::push(encoding::empty(), sampling))
+    encoding::refused_if(!d.is_empty(), Refusal::DataLength)?;
+    Ok(encoding::push(encoding::empty(), sampling))
 }

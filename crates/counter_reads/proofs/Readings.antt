@@ -2,21 +2,19 @@
 use Prim.Native.Nat.{ℕ, ◌+◌, ◌-◌}
 use native.Mathlib.Omega.{arith}
 use mathlib.Core.Path.{◌≡◌, refl, ◌∙◌}
-use mathlib.Core.Bool.{Bool, true, false, cond, ◌&&◌, ◌||◌}
+use mathlib.Core.Bool.{Bool, true, false, cond}
 use mathlib.Core.List.{List, [], ◌∷◌, map, foldl}
-use lib.Dec.{eqb}
-use lib.ListN.{length, get_or}
+use lib.ListN.{get_or}
 use Rattle.lists.specs.Tests.{within, all}
 use Rattle.lists.specs.Data.{data_of, extended}
 use Rattle.lists.specs.Numbers.{bytes}
 use Rattle.lists.proofs.DataLaws.{extend_law, extended_append}
 use Rattle.model.specs.Samples.{counter_bits, counter_bytes}
-use Rattle.model.specs.Counters.{is_number, every_number, items_of, zeroes, number_in, parameters, read_one, values_read, read_counters}
+use Rattle.model.specs.Counters.{every_number, items_of, zeroes, number_in, parameters, read_one, values_read, read_counters}
 use Rattle.model.proofs.Short.{counters_short}
 use Rattle.counter_reads.specs.declared.Collected.{Collected}
 use Rattle.counter_reads.specs.Reading.{asks_every, every_of, read_step, read_rest}
-use Rattle.number_lists.specs.Items.{has_number}
-use Rattle.number_lists.specs.declared.NumberBits.TheVariants.{LowSix}
+use Rattle.number_lists.specs.Items.{low_six_number}
 
 -- one parameter after the other is all of them
 pub read_steps : (ps : List ℕ) (r : Collected) → foldl read_step r ps ≡ read_rest r ps
@@ -35,15 +33,14 @@ pub named_own : (d : List ℕ) → asks_every d ≡ false → parameters d ≡ d
 unfolding asks_every parameters
 named_own d h = rw h
 
--- whether each parameter names an input: a single number 0 stands for numbers that do
-pub named_law : (d : List ℕ) → (asks_every d || all (has_number LowSix) d) ≡ all (has_number LowSix) (parameters d)
+-- a single number 0 stands for numbers that are inputs'
+pub named_law : (d : List ℕ) → asks_every d ≡ true → true ≡ all low_six_number (parameters d)
 unfolding asks_every parameters all within
-named_law d = go (eqb (length d) 1 && eqb (number_in (get_or d 0 0)) 0) (zeroes (get_or d 0 0))
+named_law d h = rw h (go (zeroes (get_or d 0 0)))
   where
-    go : (b z : Bool) → (b || all (λ p. is_number (number_in p)) d) ≡ all (λ p. is_number (number_in p)) (cond b (cond z (map (λ n. 128 + n) every_number) every_number) d)
-    go true true = refl
-    go true false = refl
-    go false z = refl
+    go : (z : Bool) → true ≡ all low_six_number (cond z (map (λ n. 128 + n) every_number) every_number)
+    go true = refl
+    go false = refl
 
 -- an allowed list's values have at most 256 bytes
 pub values_fit : (d cs : List ℕ) → items_of 1 d ≡ true → extended (data_of (counter_bits ∷ [])) (values_read (parameters d) cs) ≡ data_of (counter_bits ∷ values_read (parameters d) cs)

@@ -2,12 +2,15 @@
 #![tactic(auto)]
 
 ghost use Rattle.std.specs.Prelude.{◌≡◌, List, ℕ};
+ghost use Rattle.lists.specs.Tests.{all};
+ghost use Rattle.model.specs.Numbers.{refused_by};
 ghost use Rattle.model.specs.Refusals.{refusal_of};
 ghost use Rattle.model.specs.Counters.{parameters, read_one, read_counters};
+ghost use Rattle.number_lists.specs.Items.{low_six_number};
 ghost use Rattle.counter_reads.specs.Reading.{asks_every, every_of, read_step, read_start, read_rest};
 
 use lists::Data;
-use number_lists::NumberBits;
+use model::Refusal;
 
 // 60H: the counters after it, and the reply's data.
 #[derive(Drop)]
@@ -16,14 +19,21 @@ pub struct Collected {
     pub reply: Data,
 }
 
+// All sixteen numbers.
+const EVERY: [u8; 16] = [1, 2, 3, 4, 5, 6, 7, 8, 9, 10, 11, 12, 13, 14, 15, 16];
+
 // Whether there is a single parameter with number 0, which stands for all.
 fn asks_every(d: &[u8]) -> bool
     ensures { result ≡ asks_every d.now }
 {
-    if d.len() == 1 {
-        return d[0] % 64 == 0;
-    }
-    false
+    d.len() == 1 && d[0] % 64 == 0
+}
+
+// Whether every parameter names an input.
+fn all_named(d: &[u8]) -> bool
+    ensures { result ≡ all low_six_number (parameters d.now) }
+{
+    asks_every(d) || number_lists::all_low_six(d)
 }
 
 // All sixteen parameters, with bit 7 if `p` has it.
@@ -31,11 +41,10 @@ fn every_of(p: u8) -> [u8; 16]
     ensures { result ≡ every_of p }
 {
     if p < 128 {
-        return [1, 2, 3, 4, 5, 6, 7, 8, 9, 10, 11, 12, 13, 14, 15, 16];
+        EVERY
+    } else {
+        EVERY.map(|n| n | 128)
     }
-    [
-        129, 130, 131, 132, 133, 134, 135, 136, 137, 138, 139, 140, 141, 142, 143, 144,
-    ]
 }
 
 // The counters after one parameter: where it has bit 7, the one read is zeroed.
@@ -43,20 +52,19 @@ fn collect_one(cs: [u32; 16], p: u8) -> [u32; 16]
     ensures { result ≡ read_one cs p }
 {
     if p < 128 {
-        return cs;
+        cs
+    } else {
+        encoding::with_element(cs, encoding::index_of(p % 64), 0)
     }
-    encoding::with_counter(cs, encoding::index_of(p % 64), 0)
 }
 
 // One parameter: its counter is read as the copy stood before it.
 fn read_one(r: Collected, p: u8) -> Collected
     ensures { result ≡ read_step r p }
 {
-    let cs = r.counters;
-    let sofar = r.reply;
-    let counters = collect_one(cs, p);
-    let value = encoding::counter_at(cs, encoding::index_of(p % 64));
-    let reply = encoding::push32(sofar, value);
+    let value = encoding::element(&r.counters, encoding::index_of(p % 64), 0);
+    let counters = collect_one(r.counters, p);
+    let reply = encoding::push32(r.reply, value);
     Collected { counters, reply }
 }
 
@@ -64,10 +72,9 @@ fn read_one(r: Collected, p: u8) -> Collected
 fn read_start(cs: [u32; 16]) -> Collected
     ensures { result ≡ read_start cs }
 {
-    let reply = encoding::push(encoding::empty(), 32);
     Collected {
         counters: cs,
-        reply,
+        reply: encoding::push(encoding::empty(), 32),
     }
 }
 
@@ -75,25 +82,15 @@ fn read_start(cs: [u32; 16]) -> Collected
 fn read_each(cs: [u32; 16], ps: &[u8]) -> Collected
     ensures { result ≡ read_rest (read_start cs) ps.now }
 {
-    let mut r = read_start(cs);
-    let mut i = 0;
-    while i < ps.len() {
-        r = read_one(r, ps[i]);
-        i += 1;
-    }
-    r
+    ps.iter().fold(read_start(cs), |r, p| read_one(r, *p))
 }
 
-// 60H: why it is refused, or 0, whatever the counters.
-pub fn read_refusal(d: &[u8]) -> u8
-    ensures { (cs : List ℕ) → result ≡ refusal_of (read_counters d.now cs) }
+// 60H: why it is refused, whatever the counters.
+pub fn read_refusal(d: &[u8]) -> Result<(), Refusal>
+    ensures { (cs : List ℕ) → refused_by result ≡ refusal_of (read_counters d.now cs) }
 {
-    let named = asks_every(d) | number_lists::all_numbers(NumberBits::LowSix, d);
-    encoding::refused_if(
-        !number_lists::items_of(1, d.len()),
-        8,
-        encoding::refused_if(!named, 11, 0),
-    )
+    encoding::refused_if(!number_lists::items_of(1, d.len()), Refusal::DataLength)?;
+    encoding::refused_if(!all_named(d), Refusal::Value)
 }
 
 // 60H: read, and collect.
@@ -101,8 +98,8 @@ pub fn collect(cs: [u32; 16], d: &[u8]) -> Collected
     ensures { result ≡ read_rest (read_start cs) (parameters d.now) }
 {
     if asks_every(d) {
-        let every = every_of(encoding::at(d, 0));
-        return read_each(cs, &every);
+        read_each(cs, &every_of(encoding::at(d, 0)))
+    } else {
+        read_each(cs, d)
     }
-    read_each(cs, d)
 }

@@ -6,56 +6,47 @@ ghost use Rattle.model.specs.State.{with_counters, with_modes};
 ghost use Rattle.model.specs.Refusals.{on_part, judged};
 ghost use Rattle.model.specs.Registers.{write_counters, write_deductions, write_modes};
 ghost use Rattle.model.specs.Modbus.{words};
-ghost use Rattle.outcomes.specs.Parts.{served_of};
+ghost use Rattle.outcomes.specs.Parts.{outcome, served_of};
 
-use model::Module;
+use model::{Module, Refusal};
 use outcomes::Served;
 
-// Registers 100 to 115
-pub fn write_counters(m: Module, a: u16, d: &[u8]) -> Served
-    ensures { result ≡ served_of (judged m (on_part (with_counters m) (write_counters a (words d.now) m.inputs.counters))) }
+// Registers 100 to 115. One function for these and for the modes would take a group, two closures and their promises, which is no plainer.
+pub fn write_counters(m: Module, a: u16, d: &[u8]) -> Result<Served, Refusal>
+    ensures { outcome m result ≡ served_of (judged m (on_part (with_counters m) (write_counters a (words d.now) m.inputs.counters))) }
 {
-    let x = m.inputs;
-    let cs = x.counters;
-    let es = decoders::registers(groups::COUNTERS, a, d);
-    let wrong = groups::is_outside(groups::COUNTERS, a, d.len() / 2);
-    let refusal = encoding::refused_if(wrong, 9, counter_effects::clear_refusal(es));
-    outcomes::settle(
-        refusal,
-        m,
-        outcomes::with_counters(m, counter_effects::clear(cs, es)),
-    )
+    let outside = groups::is_outside(groups::COUNTERS, a, d.len() / 2);
+    encoding::refused_if(outside, Refusal::Range)?;
+    let decoded = decoders::registers(groups::COUNTERS, a, d);
+    let es = decoded.as_slice();
+    counter_effects::clear_refusal(es)?;
+    let counters = counter_effects::clear(m.inputs.counters, es);
+    Ok(Served::without_data(outcomes::with_counters(m, counters)))
 }
 
 // Registers 200 to 215
-pub fn write_deductions(m: Module, a: u16, d: &[u8]) -> Served
-    ensures { result ≡ served_of (judged m (on_part (with_counters m) (write_deductions a (words d.now) m.inputs.counters))) }
+pub fn write_deductions(m: Module, a: u16, d: &[u8]) -> Result<Served, Refusal>
+    ensures { outcome m result ≡ served_of (judged m (on_part (with_counters m) (write_deductions a (words d.now) m.inputs.counters))) }
 {
-    let x = m.inputs;
-    let cs = x.counters;
-    let es = decoders::registers(groups::DEDUCTIONS, a, d);
     let count = d.len() / 2;
     let wrong = groups::is_outside(groups::DEDUCTIONS, a, count) | (12 < count);
-    let refusal = encoding::refused_if(wrong, 9, counter_effects::deduct_refusal(cs, es));
-    outcomes::settle(
-        refusal,
-        m,
-        outcomes::with_counters(m, counter_effects::deduct(cs, es)),
-    )
+    encoding::refused_if(wrong, Refusal::Range)?;
+    let decoded = decoders::registers(groups::DEDUCTIONS, a, d);
+    let es = decoded.as_slice();
+    counter_effects::deduct_refusal(m.inputs.counters, es)?;
+    let counters = counter_effects::deduct(m.inputs.counters, es);
+    Ok(Served::without_data(outcomes::with_counters(m, counters)))
 }
 
 // Registers 300 to 315
-pub fn write_modes(m: Module, a: u16, d: &[u8]) -> Served
-    ensures { result ≡ served_of (judged m (on_part (with_modes m) (write_modes a (words d.now) m.settings.modes))) }
+pub fn write_modes(m: Module, a: u16, d: &[u8]) -> Result<Served, Refusal>
+    ensures { outcome m result ≡ served_of (judged m (on_part (with_modes m) (write_modes a (words d.now) m.settings.modes))) }
 {
-    let kept = m.settings;
-    let ms = kept.modes;
-    let es = decoders::registers(groups::MODES, a, d);
-    let wrong = groups::is_outside(groups::MODES, a, d.len() / 2);
-    let refusal = encoding::refused_if(wrong, 9, counter_effects::modes_refusal(es));
-    outcomes::settle(
-        refusal,
-        m,
-        outcomes::with_modes(m, counter_effects::set_modes(ms, es)),
-    )
+    let outside = groups::is_outside(groups::MODES, a, d.len() / 2);
+    encoding::refused_if(outside, Refusal::Range)?;
+    let decoded = decoders::registers(groups::MODES, a, d);
+    let es = decoded.as_slice();
+    counter_effects::modes_refusal(es)?;
+    let modes = counter_effects::set_modes(m.settings.modes, es);
+    Ok(Served::without_data(outcomes::with_modes(m, modes)))
 }

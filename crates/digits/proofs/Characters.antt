@@ -10,7 +10,7 @@ use lib.ListN.{length, drop, set, replicate, length-append}
 use lib.Seq.{drop-cons, drop-set-lt, get_or-set_same, lt-length-set}
 use borrow.Author.Tests.{lt-ltb, le-ltb, ltb-false}
 use Rattle.digits.specs.Writing.{character, written, places_in, places, decimal_text, padded}
-use Rattle.lists.proofs.DataLaws.{filled_length, filled_push, filled_more}
+use Rattle.lists.proofs.DataLaws.{filled_push, filled_more}
 
 pub length-written : (base w n : ℕ) → length (written base w n) ≡ w
 unfolding written
@@ -62,10 +62,6 @@ stored base (suc j) left bytes h k =
     let less : suc j - 1 ≡ j = omega arith in
     let b = character (left % base) in
     rw (less, drop-cons (set bytes j b) j 0 (lt-length-set bytes j b (omega arith)), get_or-set_same bytes j b 0 (omega arith), drop-set-lt (suc j) bytes j b (omega arith)) (sym (append_assoc (written base j (left / base)) (b ∷ []) (drop (suc j) bytes)))
-
-pub length-padded : (w : ℕ) (l : List ℕ) → length l ≤ w → length (padded w l) ≡ w
-unfolding padded
-length-padded w l h = filled_length w 0 l h
 
 -- a store behind the last character that counts
 pub padded_push : (w : ℕ) (l : List ℕ) (b : ℕ) → length l < w → set (padded w l) (length l) b ≡ padded w (l ++ b ∷ [])

@@ -1,8 +1,12 @@
 -- Text as a number of 16 bits. 65,536 stands for no number.
-use Rattle.std.specs.Prelude.{ℕ, ◌+◌, ◌*◌, ◌-◌, ◌%◌, cond, ◌&&◌, List, [], ◌∷◌, eqb, ltb, leb, length, get_or, drop}
+use Rattle.std.specs.Prelude.{ℕ, ◌+◌, ◌*◌, ◌-◌, ◌%◌, cond, ◌&&◌, List, [], ◌∷◌, eqb, ltb, leb, length, get_or, drop, Option, Some, None}
 
 abbrev pub none : ℕ
 none = 65536
+
+-- a number below a limit; any other stands for none
+abbrev pub found : ℕ → ℕ → Option ℕ
+found limit n = cond (ltb n limit) (Some n) None
 
 -- `0` to `9`, `A` to `F`, `a` to `f`; 16 for any other byte
 unfoldable pub digit : ℕ → ℕ

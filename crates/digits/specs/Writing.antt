@@ -1,7 +1,11 @@
 -- A number as text, in ASCII.
 use Rattle.std.specs.Prelude.{ℕ, zero, suc, ◌+◌, ◌/◌, ◌%◌, cond, List, [], ◌∷◌, ◌++◌, ltb, length}
 use Rattle.lists.specs.Data.{filled}
-use Rattle.digits.specs.declared.Numeral.{Numeral}
+use Rattle.lists.specs.declared.Bounded.{Bounded}
+
+-- a number's characters by value
+abbrev pub Numeral : Type 0
+Numeral = Bounded ℕ 20
 
 -- a digit below 16: `0` to `9`, then `A` to `F`
 unfoldable pub character : ℕ → ℕ
@@ -34,4 +38,4 @@ unfoldable pub padded : ℕ → List ℕ → List ℕ
 padded w l = filled w 0 l
 
 abbrev pub numeral_of : List ℕ → Numeral
-numeral_of l = record { bytes = padded 20 l; len = length l }
+numeral_of l = record { items = padded 20 l; len = length l }

@@ -2,112 +2,108 @@
 #![tactic(auto)]
 
 ghost use Rattle.std.specs.Prelude.{◌≡◌, ◌<◌, ◌≤◌};
-ghost use Rattle.digits.specs.Reading.{digit, digits, decimal, hex, positive, negative, signed_decimal};
+ghost use Rattle.digits.specs.Reading.{found, digit, digits, decimal, hex, positive, negative, signed_decimal};
 ghost use Rattle.digits.specs.Writing.{character, written, places, numeral_of, decimal_text, hex_text};
 
-// A number's characters by value: the first `len` of `bytes` count, and the rest are 0.
-#[derive(Drop)]
-pub struct Numeral {
-    pub bytes: [u8; 20],
-    pub len: usize,
+use lists::Bounded;
+
+// A number's characters by value; what stands behind those that count is 0.
+pub type Numeral = Bounded<u8, 20>;
+
+// The value of a digit.
+#[tactic(auto, unfolding(crate::specs::Reading::digit))]
+pub fn digit_of(b: u8) -> Option<u8>
+    ensures { result ≡ found 16 (digit b) }
+{
+    match b {
+        b'0'..=b'9' => Some(b - b'0'),
+        b'A'..=b'F' => Some(b - b'A' + 10),
+        b'a'..=b'f' => Some(b - b'a' + 10),
+        _ => None,
+    }
 }
 
-// The value of a digit, or 16.
-pub fn digit_of(b: u8) -> u8
-    ensures { result ≡ digit b }
+// The value of a digit below the base; a byte that is no digit stands for 16, as the definition says.
+fn digit_below(base: u8, b: u8) -> Option<u8>
+    ensures { result ≡ found base (digit b) }
 {
-    if (48 <= b) & (b <= 57) {
-        return b - 48;
-    }
-    if (65 <= b) & (b <= 70) {
-        return b - 55;
-    }
-    if (97 <= b) & (b <= 102) {
-        return b - 87;
-    }
-    16
+    let d = digit_of(b).unwrap_or(16);
+    if d < base { Some(d) } else { None }
 }
 
-// The number of some digits, or 65,536.
-pub fn digits_of(base: u8, w: &[u8]) -> u32
-    ensures { result ≡ digits base 0 w.now }
+// The number of some digits, below 65,536.
+pub fn digits_of(base: u8, w: &[u8]) -> Option<u16>
+    ensures { result ≡ found 65536 (digits base 0 w.now) }
 {
-    let mut n: u32 = 0;
-    let mut i = 0;
-    while i < w.len() {
-        let d = digit_of(w[i]);
-        if base <= d {
-            return 65536;
-        }
-        n = n * (base as u32) + (d as u32);
-        if 65536 <= n {
-            return 65536;
-        }
-        i += 1;
+    let mut n: u16 = 0;
+    for b in w {
+        let d = digit_below(base, *b)?;
+        n = n.checked_mul(u16::from(base))?.checked_add(u16::from(d))?;
     }
-    n
+    Some(n)
 }
 
-// A decimal number without a sign, or 65,536.
-pub fn decimal_of(w: &[u8]) -> u32
-    ensures { result ≡ decimal w.now }
+// A decimal number without a sign.
+#[tactic(auto, unfolding(crate::specs::Reading::decimal))]
+pub fn decimal_of(w: &[u8]) -> Option<u16>
+    ensures { result ≡ found 65536 (decimal w.now) }
 {
-    if w.len() == 0 {
-        return 65536;
+    if w.is_empty() {
+        return None;
     }
     digits_of(10, w)
 }
 
-// A number of exactly n hex digits, or 65,536.
-pub fn hex_of(n: usize, w: &[u8]) -> u32
-    ensures { result ≡ hex n w.now }
+// A number of exactly n hex digits.
+#[tactic(auto, unfolding(crate::specs::Reading::hex))]
+pub fn hex_of(n: usize, w: &[u8]) -> Option<u16>
+    ensures { result ≡ found 65536 (hex n w.now) }
 {
-    if w.len() == n {
-        return digits_of(16, w);
+    if w.len() != n {
+        return None;
     }
-    65536
+    digits_of(16, w)
 }
 
-// A number without a minus as a pattern of 16 bits, or 65,536.
-fn positive_of(n: u32) -> u32
-    ensures { result ≡ positive n }
+// A number without a minus as a pattern of 16 bits.
+#[tactic(auto, unfolding(crate::specs::Reading::positive))]
+fn positive_of(n: u16) -> Option<u16>
+    ensures { result ≡ found 65536 (positive n) }
 {
-    if n < 32768 { n } else { 65536 }
+    if n < 32768 { Some(n) } else { None }
 }
 
-// A number after a minus as a pattern of 16 bits, or 65,536.
-fn negative_of(n: u32) -> u32
-    ensures { result ≡ negative n }
+// A number after a minus as a pattern of 16 bits.
+#[tactic(auto, unfolding(crate::specs::Reading::negative))]
+fn negative_of(n: u16) -> Option<u16>
+    ensures { result ≡ found 65536 (negative n) }
 {
-    if n < 32769 {
-        (65536 - n) % 65536
+    if n <= 32768 {
+        Some(n.wrapping_neg())
     } else {
-        65536
+        None
     }
 }
 
-// A signed number as a pattern of 16 bits, or 65,536.
-pub fn signed_decimal_of(w: &[u8]) -> u32
-    ensures { result ≡ signed_decimal w.now }
+// A signed number as a pattern of 16 bits.
+pub fn signed_decimal_of(w: &[u8]) -> Option<u16>
+    ensures { result ≡ found 65536 (signed_decimal w.now) }
 {
-    if w.len() == 0 {
-        return 65536;
+    let (sign, number) = w.split_first()?;
+    match *sign {
+        b'-' => decimal_of(number).and_then(negative_of),
+        b'+' => decimal_of(number).and_then(positive_of),
+        _ => decimal_of(w).and_then(positive_of),
     }
-    if w[0] == 45 {
-        return negative_of(decimal_of(&w[1..]));
-    }
-    if w[0] == 43 {
-        return positive_of(decimal_of(&w[1..]));
-    }
-    positive_of(decimal_of(w))
 }
 
 // The upper-case digit of a number below 16.
+#[tactic(auto, unfolding(crate::specs::Writing::character))]
 fn character_of(d: u8) -> u8
     requires { d < 16 }
     ensures { result ≡ character d }
 {
-    if d < 10 { 48 + d } else { 55 + d }
+    if d < 10 { b'0' + d } else { b'A' + (d - 10) }
 }
 
 // How many decimal digits a number has.
@@ -115,15 +111,13 @@ fn places_of(n: u64) -> usize
     ensures { result ≡ places n }
 {
     let mut left = n;
-    let mut count = 1;
-    while count < 20 {
+    for count in 1..20 {
         if left < 10 {
             return count;
         }
-        left = left / 10;
-        count += 1;
+        left /= 10;
     }
-    count
+    20
 }
 
 // The lowest digits of a number, stored from the last to the first.
@@ -133,15 +127,13 @@ fn written_of(base: u64, len: usize, n: u64) -> Numeral
     requires len_bound { len ≤ 20 }
     ensures { result ≡ numeral_of (written base len n) }
 {
-    let mut bytes = [0u8; 20];
+    let mut items = [0u8; 20];
     let mut left = n;
-    let mut i = len;
-    while 0 < i {
-        i -= 1;
-        bytes[i] = character_of((left % base) as u8);
-        left = left / base;
+    for i in (0..len).rev() {
+        items[i] = character_of((left % base) as u8);
+        left /= base;
     }
-    Numeral { bytes, len }
+    Numeral { items, len }
 }
 
 // A number in decimal, without leading zeros.
@@ -155,5 +147,5 @@ pub fn decimal_text(n: u64) -> Numeral
 pub fn hex_text(b: u8) -> Numeral
     ensures { result ≡ numeral_of (hex_text b) }
 {
-    written_of(16, 2, b as u64)
+    written_of(16, 2, u64::from(b))
 }

@@ -1,12 +1,14 @@
 // Two-byte, four-byte and signed numbers, float words, sixteen-element arrays, and reply data.
 #![tactic(auto)]
 
-ghost use Rattle.std.specs.Prelude.{◌≡◌, cond, [], ◌∷◌, ◌+◌, ◌-◌, ◌*◌, ◌/◌, ◌%◌, min, get_or, set};
+ghost use Rattle.std.specs.Prelude.{◌≡◌, cond, [], ◌∷◌, ◌+◌, ◌-◌, ◌*◌, ◌/◌, ◌%◌, get_or, set};
 ghost use Rattle.lists.specs.Data.{data_of, pushed, extended, bytes_in};
-ghost use Rattle.lists.specs.Numbers.{number, word_at, bytes};
+ghost use Rattle.lists.specs.Numbers.{number, word_at, bytes, bits_number};
 ghost use Rattle.model.specs.Temperature.{signed_of, pattern_of, float_bits};
+ghost use Rattle.model.specs.Numbers.{number_of, refused_by};
 
 use lists::Data;
+use model::Refusal;
 
 // A float's bits as two registers.
 #[derive(Drop)]
@@ -15,34 +17,21 @@ pub struct FloatWords {
     pub low: u16,
 }
 
-// The answer to a request that only reads: the refusal's number or 0, and the reply's data.
-#[derive(Drop)]
-pub struct Told {
-    pub refusal: u8,
-    pub reply: Data,
-}
-
 // No bytes.
 pub fn empty() -> Data
     ensures { result ≡ data_of [] }
 {
     Data {
-        bytes: [0u8; 256],
+        items: [0u8; 256],
         len: 0,
     }
 }
 
-// One byte more; a full `d` stays as it is.
+// One byte more; a full `d` stays as it is. It is the bounded list's `push`, in the definition's words.
 pub fn push(d: Data, b: u8) -> Data
     ensures { result ≡ pushed d b }
 {
-    let at = d.len;
-    let mut next = d;
-    if at < 256 {
-        next.bytes[at] = b;
-        next.len = at + 1;
-    }
-    next
+    d.push(b)
 }
 
 // A two-byte number, high byte first.
@@ -63,27 +52,14 @@ pub fn push32(d: Data, v: u32) -> Data
     push16(push16(d, high), low)
 }
 
-// The length, limited to the array's 256 bytes: a struct may hold any.
-fn within_array(n: usize) -> usize
-    ensures { result ≡ min n 256 }
-{
-    if n < 256 { n } else { 256 }
-}
-
-// `d` with the bytes of `b` after its own. It stores in place, since a call of `push` for each byte would copy the array.
+// `d` with the bytes of `b` after its own.
 pub fn append(d: Data, b: Data) -> Data
     ensures { result ≡ extended d (bytes_in b) }
 {
-    let n = within_array(b.len);
+    let counted = b.as_slice();
     let mut out = d;
-    let mut i = 0;
-    while i < n {
-        let at = out.len;
-        if at < 256 {
-            out.bytes[at] = b.bytes[i];
-            out.len = at + 1;
-        }
-        i += 1;
+    for byte in counted {
+        out = out.push(*byte);
     }
     out
 }
@@ -130,6 +106,19 @@ pub fn low_word(v: u32) -> u16
     (v % 65536) as u16
 }
 
+// The number of sixteen bits, the lowest first.
+pub fn bits_of(bs: [bool; 16]) -> u16
+    ensures { result ≡ bits_number bs }
+{
+    let mut bits: u16 = 0;
+    let mut rest = bs.as_slice();
+    while let Some((last, front)) = rest.split_last() {
+        bits = u16::from(*last) + 2 * (bits % 32768);
+        rest = front;
+    }
+    bits
+}
+
 // A 16-bit pattern read as two's complement. From 8000H up, what is missing to FFFFH is the number's complement.
 pub fn signed_of(n: u16) -> i16
     ensures { result ≡ signed_of n }
@@ -174,45 +163,20 @@ pub fn float_words(x: f32) -> FloatWords
     FloatWords { high, low }
 }
 
-// The word of an index, or 0 where there is none.
-pub fn word_at(ws: [u16; 16], k: usize) -> u16
-    ensures { result ≡ get_or ws k 0 }
+// The element of an index, or `default` where there is none.
+pub fn element<T: Copy>(xs: &[T], k: usize, default: T) -> T
+    ensures { result ≡ get_or xs.now k default }
 {
-    if k < 16 { ws[k] } else { 0 }
+    xs.get(k).copied().unwrap_or(default)
 }
 
-// The counter of an index, or 0 where there is none.
-pub fn counter_at(cs: [u32; 16], k: usize) -> u32
-    ensures { result ≡ get_or cs k 0 }
+// The sixteen with one replaced, where the index has one.
+pub fn with_element<T: Copy>(xs: [T; 16], k: usize, x: T) -> [T; 16]
+    ensures { result ≡ set xs k x }
 {
-    if k < 16 { cs[k] } else { 0 }
-}
-
-// The counters with one replaced, where the index has one.
-pub fn with_counter(cs: [u32; 16], k: usize, v: u32) -> [u32; 16]
-    ensures { result ≡ set cs k v }
-{
-    let mut next = cs;
+    let mut next = xs;
     if k < 16 {
-        next[k] = v;
-    }
-    next
-}
-
-// The byte of an index, or 0 where there is none.
-pub fn byte_at(bs: [u8; 16], k: usize) -> u8
-    ensures { result ≡ get_or bs k 0 }
-{
-    if k < 16 { bs[k] } else { 0 }
-}
-
-// The array with one byte replaced, where the index has one.
-pub fn with_byte(bs: [u8; 16], k: usize, v: u8) -> [u8; 16]
-    ensures { result ≡ set bs k v }
-{
-    let mut next = bs;
-    if k < 16 {
-        next[k] = v;
+        next[k] = x;
     }
     next
 }
@@ -221,38 +185,14 @@ pub fn with_byte(bs: [u8; 16], k: usize, v: u8) -> [u8; 16]
 pub fn index_of(n: u8) -> usize
     ensures { result ≡ n - 1 }
 {
-    if n < 1 { 0 } else { (n as usize) - 1 }
-}
-
-// The difference, or 0 where it would be negative.
-pub fn less(a: u32, b: u32) -> u32
-    ensures { result ≡ a - b }
-{
-    if a < b { 0 } else { a - b }
-}
-
-// A refused read: no data.
-pub fn refuse(refusal: u8) -> Told
-    ensures { result ≡ record { refusal = refusal; reply = data_of [] } }
-{
-    Told {
-        refusal,
-        reply: empty(),
-    }
-}
-
-// An accepted read with its data.
-pub fn tell(reply: Data) -> Told
-    ensures { result ≡ record { refusal = 0; reply = reply } }
-{
-    Told { refusal: 0, reply }
+    usize::from(n).saturating_sub(1)
 }
 
 // The byte at i, or 0 past the end.
 pub fn at(d: &[u8], i: usize) -> u8
     ensures { result ≡ get_or d.now i 0 }
 {
-    if i < d.len() { d[i] } else { 0 }
+    element(d, i, 0)
 }
 
 // Two bytes from i on as a number.
@@ -266,9 +206,9 @@ pub fn word_from(d: &[u8], i: usize) -> u16
     }
 }
 
-// The number of a condition where it holds, else what the later ones give.
-pub fn refused_if(holds: bool, number: u8, later: u8) -> u8
-    ensures { result ≡ cond holds number later }
+// Refused where a condition holds.
+pub fn refused_if(holds: bool, refusal: Refusal) -> Result<(), Refusal>
+    ensures { refused_by result ≡ cond holds (number_of refusal) 0 }
 {
-    if holds { number } else { later }
+    if holds { Err(refusal) } else { Ok(()) }
 }

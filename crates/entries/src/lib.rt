@@ -1,7 +1,7 @@
 // Decoded entries, each a number and a value: made one by one, counted and looked up.
 #![tactic(auto)]
 
-ghost use Rattle.std.specs.Prelude.{◌≡◌, [], ◌∷◌, ◌-◌, ◌%◌, length, get_or, take};
+ghost use Rattle.std.specs.Prelude.{◌≡◌, [], ◌∷◌, ◌-◌, ◌%◌};
 ghost use Rattle.lists.specs.Entries.{entry, entries_of, entries_in, entry_added};
 ghost use Rattle.model.specs.Counters.{is_number};
 
@@ -20,17 +20,11 @@ pub fn none() -> Entries
     }
 }
 
-// One entry more, while there is room.
+// One entry more, while there is room: the bounded list's `push`, in the definition's words.
 pub fn add(es: Entries, e: Entry) -> Entries
     ensures { result ≡ entry_added es e }
 {
-    let at = es.len;
-    let mut next = es;
-    if at < 16 {
-        next.items[at] = e;
-        next.len = at + 1;
-    }
-    next
+    es.push(e)
 }
 
 // One value for one number.
@@ -38,42 +32,6 @@ pub fn single(number: usize, value: u32) -> Entries
     ensures { result ≡ entries_of (entry number value ∷ []) }
 {
     add(none(), Entry { number, value })
-}
-
-// How many of the first n items there are.
-fn items_within(items: [Entry; 16], n: usize) -> usize
-    ensures { result ≡ length (take n items) }
-{
-    if n < 16 { n } else { 16 }
-}
-
-// The item at a place of the first n, an empty one past their end.
-fn item_at(items: [Entry; 16], n: usize, i: usize) -> Entry
-    ensures { result ≡ get_or (take n items) i (entry 0 0) }
-{
-    if i < items_within(items, n) {
-        return items[i];
-    }
-    Entry {
-        number: 0,
-        value: 0,
-    }
-}
-
-// How many entries count.
-pub fn count(es: Entries) -> usize
-    ensures { result ≡ length (entries_in es) }
-{
-    let items = es.items;
-    items_within(items, es.len)
-}
-
-// The entry at a place, an empty one past the end.
-pub fn entry_at(es: Entries, i: usize) -> Entry
-    ensures { result ≡ get_or (entries_in es) i (entry 0 0) }
-{
-    let items = es.items;
-    item_at(items, es.len, i)
 }
 
 // Whether an entry has the number of an input or an output.
@@ -87,7 +45,7 @@ pub fn is_numbered(e: Entry) -> bool
 pub fn place(e: Entry) -> usize
     ensures { result ≡ e.number - 1 }
 {
-    if e.number < 1 { 0 } else { e.number - 1 }
+    e.number.saturating_sub(1)
 }
 
 // The low byte of an entry's value.

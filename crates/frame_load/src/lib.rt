@@ -29,6 +29,7 @@ fn ready() -> Played
     ensures { result ≡ ready_to_play }
 {
     let mut m = startup::fresh();
+    // Through a variable: an array that is stored in a field of a field gets no proof.
     let mut inputs = m.inputs;
     inputs.counters = [
         65540, 65539, 65538, 65537, 65536, 65535, 65534, 65533, 65532, 65531, 65530, 65529, 65528,
@@ -42,7 +43,7 @@ fn ready() -> Played
     }
 }
 
-// The frame on its port.
+// The frame on its port: a `bool` and no enum, as the signature of `frame_play` for C has it.
 fn call(m: Module, modbus: bool, frame: &[u8], reply: &mut [u8]) -> Answer
     ensures { Answered (acted (length reply.old) (act_of modbus frame.now) m) result reply.old reply.new }
 {
@@ -57,13 +58,11 @@ fn play_one(p: Played, modbus: bool, frame: &[u8], reply: &mut [u8]) -> Played
     ensures value { result ≡ play_one (length reply.old) (act_of modbus frame.now) p }
     ensures reply_after { reply.new ≡ buffer_one (length reply.old) (act_of modbus frame.now) p reply.old }
 {
-    let m = p.after;
-    let a = call(m, modbus, frame, reply);
-    let after = a.after;
+    let a = call(p.after, modbus, frame, reply);
     Played {
-        after,
-        written: std::num::wrapping_add_u64(p.written, a.len as u64),
-        refusals: std::num::wrapping_add_u64(p.refusals, a.refusal as u64),
+        after: a.after,
+        written: p.written.wrapping_add(a.len as u64),
+        refusals: p.refusals.wrapping_add(u64::from(a.refusal)),
     }
 }
 
@@ -72,23 +71,19 @@ fn play(p: Played, n: u32, modbus: bool, frame: &[u8], reply: &mut [u8]) -> Play
     ensures value { result ≡ play_many (length reply.old) (act_of modbus frame.now) n p }
     ensures reply_after { reply.new ≡ buffer_many (length reply.old) (act_of modbus frame.now) n p reply.old }
 {
-    let mut q = p;
-    let mut i = 0;
-    while i < n {
-        let t = play_one(q, modbus, frame, reply);
-        q = t;
-        i += 1;
+    let mut after = p;
+    for _turn in 0..n {
+        after = play_one(after, modbus, frame, reply);
     }
-    q
+    after
 }
 
 // What is told of them.
 fn told(p: Played) -> Outcome
     ensures { result ≡ outcome_of p }
 {
-    let m = p.after;
-    let x = m.inputs;
-    let counters = x.counters;
+    // Through a variable: a field that is an array, put straight into a literal, gets no proof.
+    let counters = p.after.inputs.counters;
     Outcome {
         written: p.written,
         refusals: p.refusals,

@@ -1,149 +1,137 @@
 // Checks 2 to 6 of both ports' frames (01, the refusals), and where their data stand.
 #![tactic(auto)]
 
-ghost use Rattle.std.specs.Prelude.{◌≡◌, ◌≤◌, length};
+ghost use Rattle.std.specs.Prelude.{◌≡◌, ◌≤◌, cond, length, IfOk};
 ghost use Rattle.model.specs.Frames.{spinel_data, modbus_body};
+ghost use Rattle.model.specs.Numbers.{refused_by};
 ghost use Rattle.model.specs.Refusals.{frame_length_wrong, shape_wrong, sum_wrong, crc_wrong, spinel_address_wrong, modbus_address_wrong, spinel_broadcast_wrong, modbus_broadcast_wrong};
 ghost use Rattle.model.specs.Wire.{frame_refusal};
 ghost use Rattle.model.specs.Spinel.{spinel_wire};
 ghost use Rattle.model.specs.Modbus.{modbus_wire};
 
+use model::Refusal;
+
 // 2. Fewer bytes than the least, or more than 256.
-fn frame_length_wrong(least: usize, frame: &[u8]) -> bool
-    ensures { result ≡ frame_length_wrong least frame.now }
+#[tactic(auto, unfolding(lists::specs::Tests::within))]
+fn length_refusal(least: usize, frame: &[u8]) -> Result<(), Refusal>
+    ensures number { refused_by result ≡ cond (frame_length_wrong least frame.now) 2 0 }
+    ensures long { IfOk result (λ _. least ≤ length frame.now) }
 {
-    let n = frame.len();
-    !((least <= n) & (n <= 256))
+    let fits = (least..=256).contains(&frame.len());
+    encoding::refused_if(!fits, Refusal::FrameLength)
 }
 
 // 3. Not begun by 2A 61, not ended by 0D, or NUM does not tell the bytes that follow it.
-fn shape_wrong(frame: &[u8]) -> bool
+#[tactic(auto, unfolding(model::specs::Refusals::shape_wrong))]
+fn shape_refusal(frame: &[u8]) -> Result<(), Refusal>
     requires { 9 ≤ length frame.now }
-    ensures { result ≡ shape_wrong frame.now }
+    ensures { refused_by result ≡ cond (shape_wrong frame.now) 3 0 }
 {
     let n = frame.len();
-    if frame[0] != 0x2A {
-        return true;
-    }
-    if frame[1] != 0x61 {
-        return true;
-    }
-    if frame[n - 1] != 0x0D {
-        return true;
-    }
-    encoding::be16(frame[2], frame[3]) as usize != n - 4
+    let num = encoding::be16(frame[2], frame[3]);
+    let wrong = frame[0] != 0x2A
+        || frame[1] != 0x61
+        || frame[n - 1] != 0x0D
+        || usize::from(num) != n - 4;
+    encoding::refused_if(wrong, Refusal::Shape)
 }
 
 // 4. The last byte but one isn't the SUM of all before it.
-fn sum_wrong(frame: &[u8]) -> bool
+#[tactic(auto, unfolding(model::specs::Refusals::sum_wrong))]
+fn sum_refusal(frame: &[u8]) -> Result<(), Refusal>
     requires { 9 ≤ length frame.now }
-    ensures { result ≡ sum_wrong frame.now }
+    ensures { refused_by result ≡ cond (sum_wrong frame.now) 4 0 }
 {
-    let n = frame.len();
-    let before = n - 2;
-    frame[n - 2] != checksum::spinel_sum(&frame[..before])
+    let end = frame.len() - 2;
+    let sum = checksum::spinel_sum(&frame[..end]);
+    encoding::refused_if(frame[end] != sum, Refusal::Checksum)
 }
 
 // 4. The last two bytes aren't the CRC of all before them, low byte first.
-fn crc_wrong(frame: &[u8]) -> bool
+#[tactic(auto, unfolding(model::specs::Refusals::crc_wrong))]
+fn crc_refusal(frame: &[u8]) -> Result<(), Refusal>
     requires { 4 ≤ length frame.now }
-    ensures { result ≡ crc_wrong frame.now }
+    ensures { refused_by result ≡ cond (crc_wrong frame.now) 4 0 }
 {
-    let n = frame.len();
-    let end = n - 2;
+    let end = frame.len() - 2;
     let crc = checksum::crc16(&frame[..end]);
-    !((frame[n - 2] == encoding::low_byte(crc)) & (frame[n - 1] == encoding::high_byte(crc)))
+    let wrong = frame[end] != encoding::low_byte(crc) || frame[end + 1] != encoding::high_byte(crc);
+    encoding::refused_if(wrong, Refusal::Checksum)
 }
 
 // 5. Neither the own address, nor FE, nor FF.
-fn spinel_address_wrong(own: u8, to: u8) -> bool
-    ensures { result ≡ spinel_address_wrong own to }
+#[tactic(auto, unfolding(model::specs::Refusals::spinel_address_wrong))]
+fn spinel_address_refusal(own: u8, to: u8) -> Result<(), Refusal>
+    ensures { refused_by result ≡ cond (spinel_address_wrong own to) 5 0 }
 {
-    !((to == own) | ((to == 0xFE) | (to == 0xFF)))
+    encoding::refused_if(!(to == own || to == 0xFE || to == 0xFF), Refusal::Address)
 }
 
 // 5. Neither the own address, nor 0.
-fn modbus_address_wrong(own: u8, to: u8) -> bool
-    ensures { result ≡ modbus_address_wrong own to }
+#[tactic(auto, unfolding(model::specs::Refusals::modbus_address_wrong))]
+fn modbus_address_refusal(own: u8, to: u8) -> Result<(), Refusal>
+    ensures { refused_by result ≡ cond (modbus_address_wrong own to) 5 0 }
 {
-    !((to == own) | (to == 0))
+    encoding::refused_if(!(to == own || to == 0), Refusal::Address)
 }
 
 // 6. To all modules, and neither 20H nor 23H nor 25H.
-fn spinel_broadcast_wrong(to: u8, i: u8) -> bool
-    ensures { result ≡ spinel_broadcast_wrong to i }
+#[tactic(auto, unfolding(model::specs::Refusals::spinel_broadcast_wrong))]
+fn spinel_broadcast_refusal(to: u8, i: u8) -> Result<(), Refusal>
+    ensures { refused_by result ≡ cond (spinel_broadcast_wrong to i) 6 0 }
 {
-    (to == 0xFF) & !((i == 0x20) | ((i == 0x23) | (i == 0x25)))
+    encoding::refused_if(
+        to == 0xFF && !matches!(i, 0x20 | 0x23 | 0x25),
+        Refusal::Broadcast,
+    )
 }
 
 // 6. To all modules, and neither 05 nor 0F.
-fn modbus_broadcast_wrong(to: u8, function: u8) -> bool
-    ensures { result ≡ modbus_broadcast_wrong to function }
+#[tactic(auto, unfolding(model::specs::Refusals::modbus_broadcast_wrong))]
+fn modbus_broadcast_refusal(to: u8, function: u8) -> Result<(), Refusal>
+    ensures { refused_by result ≡ cond (modbus_broadcast_wrong to function) 6 0 }
 {
-    (to == 0) & !((function == 0x05) | (function == 0x0F))
+    encoding::refused_if(
+        to == 0 && !matches!(function, 0x05 | 0x0F),
+        Refusal::Broadcast,
+    )
 }
 
-// Refusals 2 to 6 of a Spinel frame in checking order, or 0.
-pub fn spinel_refusal(own: u8, frame: &[u8]) -> u8
-    ensures { result ≡ frame_refusal spinel_wire own frame.now }
+// Refusals 2 to 6 of a Spinel frame in checking order.
+#[tactic(auto, unfolding(model::specs::Wire::frame_refusal))]
+pub fn spinel_refusal(own: u8, frame: &[u8]) -> Result<(), Refusal>
+    ensures { refused_by result ≡ frame_refusal spinel_wire own frame.now }
 {
-    if frame_length_wrong(9, frame) {
-        return 2;
-    }
-    if shape_wrong(frame) {
-        return 3;
-    }
-    if sum_wrong(frame) {
-        return 4;
-    }
-    if spinel_address_wrong(own, frame[4]) {
-        return 5;
-    }
-    if spinel_broadcast_wrong(frame[4], frame[6]) {
-        return 6;
-    }
-    0
+    length_refusal(9, frame)?;
+    shape_refusal(frame)?;
+    sum_refusal(frame)?;
+    spinel_address_refusal(own, frame[4])?;
+    spinel_broadcast_refusal(frame[4], frame[6])
 }
 
-// Refusals 2 to 6 of a Modbus frame in checking order, or 0; 3 is Spinel's alone.
-pub fn modbus_refusal(own: u8, frame: &[u8]) -> u8
-    ensures { result ≡ frame_refusal modbus_wire own frame.now }
+// Refusals 2 to 6 of a Modbus frame in checking order; 3 is Spinel's alone.
+#[tactic(auto, unfolding(model::specs::Wire::frame_refusal))]
+pub fn modbus_refusal(own: u8, frame: &[u8]) -> Result<(), Refusal>
+    ensures { refused_by result ≡ frame_refusal modbus_wire own frame.now }
 {
-    if frame_length_wrong(4, frame) {
-        return 2;
-    }
-    if crc_wrong(frame) {
-        return 4;
-    }
-    if modbus_address_wrong(own, frame[0]) {
-        return 5;
-    }
-    if modbus_broadcast_wrong(frame[0], frame[1]) {
-        return 6;
-    }
-    0
+    length_refusal(4, frame)?;
+    crc_refusal(frame)?;
+    modbus_address_refusal(own, frame[0])?;
+    modbus_broadcast_refusal(frame[0], frame[1])
 }
 
 // The data of a Spinel frame: all between instruction and SUM; none where the frame is too short.
 pub fn spinel_data(frame: &[u8]) -> &[u8]
     ensures { result.now ≡ spinel_data frame.now }
 {
-    let n = frame.len();
-    if n < 9 {
-        return &frame[..0];
-    }
-    let end = n - 2;
-    &frame[7..end]
+    let end = frame.len().saturating_sub(2);
+    frame.get(7..end).unwrap_or(&[])
 }
 
 // The body of a Modbus frame: all between function and CRC; none where the frame is too short.
 pub fn modbus_body(frame: &[u8]) -> &[u8]
     ensures { result.now ≡ modbus_body frame.now }
 {
-    let n = frame.len();
-    if n < 4 {
-        return &frame[..0];
-    }
-    let end = n - 2;
-    &frame[2..end]
+    let end = frame.len().saturating_sub(2);
+    frame.get(2..end).unwrap_or(&[])
 }

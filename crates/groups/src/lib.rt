@@ -48,9 +48,9 @@ pub const BITS: Group = Group {
 pub fn is_outside(g: Group, a: u16, n: usize) -> bool
     ensures { result ≡ outside g a n }
 {
-    let first = g.first as usize;
-    let end = first + (g.count as usize);
-    let at = a as usize;
+    let first = usize::from(g.first);
+    let end = first + usize::from(g.count);
+    let at = usize::from(a);
     if at < first {
         return true;
     }
@@ -64,24 +64,14 @@ pub fn is_outside(g: Group, a: u16, n: usize) -> bool
 pub fn place(g: Group, a: u16) -> usize
     ensures { result ≡ a - g.first }
 {
-    let first = g.first as usize;
-    let at = a as usize;
-    if first <= at {
-        return at - first;
-    }
-    0
+    usize::from(a).saturating_sub(usize::from(g.first))
 }
 
 // The number of the input or output that register a is for.
 pub fn number(g: Group, a: u16) -> usize
     ensures { result ≡ number_at g a }
 {
-    let first = g.first as usize;
-    let next = (a as usize) + 1;
-    if first <= next {
-        return next - first;
-    }
-    0
+    (usize::from(a) + 1).saturating_sub(usize::from(g.first))
 }
 
 // 9: n registers from a on are not the four of one thermostat.

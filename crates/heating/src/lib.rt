@@ -2,33 +2,21 @@
 #![tactic(auto)]
 
 ghost use Rattle.std.specs.Prelude.{◌≡◌};
-ghost use Rattle.model.specs.Temperature.{heated, failed, by_thermostat};
+ghost use Rattle.model.specs.Temperature.{by_thermostat};
+ghost use Rattle.thermostat.specs.Acting.{acting};
 ghost use Rattle.heating.specs.Parts.{taken_parts};
 
 use model::{Output, Reading, Thermostat};
 
-// The sixteen at a valid sample.
-pub fn heat_outputs(last: Reading, now: i16, hs: [Thermostat; 16], os: [Output; 16]) -> [Output; 16]
-    ensures { result ≡ by_thermostat (heated last now) hs os }
+// The sixteen outputs at a sample with this reading.
+fn act_all(last: Reading, r: Reading, hs: [Thermostat; 16], os: [Output; 16]) -> [Output; 16]
+    ensures { result ≡ by_thermostat (acting last r) hs os }
 {
     let mut next = os;
     for i in 0..16usize {
         let h = hs[i];
         let o = next[i];
-        next[i] = thermostat::heat(last, now, h, o);
-    }
-    next
-}
-
-// The sixteen at a fault sample.
-pub fn fail_outputs(hs: [Thermostat; 16], os: [Output; 16]) -> [Output; 16]
-    ensures { result ≡ by_thermostat failed hs os }
-{
-    let mut next = os;
-    for i in 0..16usize {
-        let h = hs[i];
-        let o = next[i];
-        next[i] = thermostat::fail(h, o);
+        next[i] = thermostat::act(last, r, h, o);
     }
     next
 }
@@ -45,14 +33,15 @@ pub struct Taken {
 pub fn take_reading(os: [Output; 16], hs: [Thermostat; 16], last: Reading, r: Reading) -> Taken
     ensures { result ≡ taken_parts os hs last r }
 {
+    let outputs = act_all(last, r, hs, os);
     match r {
-        Reading::Valid(now, _) => Taken {
-            outputs: heat_outputs(last, now, hs, os),
+        Reading::Valid(_, _) => Taken {
+            outputs,
             reading: r,
             last: r,
         },
         Reading::Fault => Taken {
-            outputs: fail_outputs(hs, os),
+            outputs,
             reading: r,
             last,
         },

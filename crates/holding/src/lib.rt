@@ -1,11 +1,11 @@
 // What a thermostat's flags say, and whether it holds its output. They are FSSKTTTT; nothing else reads them.
 #![tactic(auto)]
 
-ghost use Rattle.std.specs.Prelude.{◌≡◌, get_or};
-ghost use Rattle.model.specs.State.{fresh_thermostat};
+ghost use Rattle.std.specs.Prelude.{◌≡◌};
 ghost use Rattle.model.specs.Temperature.{active, action, on_fall, sensor, setting_shown, free};
+ghost use Rattle.holding.specs.Actions.{bits_of};
 
-use model::{Reading, Seconds, Thermostat};
+use model::{Reading, Thermostat};
 
 // F: whether it acts at all.
 pub fn is_active(h: Thermostat) -> bool
@@ -14,11 +14,25 @@ pub fn is_active(h: Thermostat) -> bool
     128 <= h.flags
 }
 
-// SS: 0 on above TEMPx, 1 off above it, 2 and 3 pulses that begin with on or off.
-pub fn action_of(h: Thermostat) -> u8
-    ensures { result ≡ action h }
+// SS: what it does to its output. Above TEMPx it is on or off, or a crossing starts a pulse that begins with on or off.
+#[derive(Clone, Copy)]
+pub enum Action {
+    OnAbove,
+    OffAbove,
+    OnPulse,
+    OffPulse,
+}
+
+// The action of its two bits.
+pub fn action_of(h: Thermostat) -> Action
+    ensures { bits_of result ≡ action h }
 {
-    h.flags / 32 % 4
+    match h.flags / 32 % 4 {
+        0 => Action::OnAbove,
+        1 => Action::OffAbove,
+        2 => Action::OnPulse,
+        _ => Action::OffPulse,
+    }
 }
 
 // K: whether its pulses start below TEMPy.
@@ -40,23 +54,6 @@ pub fn setting_shown(h: Thermostat) -> u8
     ensures { result ≡ setting_shown h }
 {
     h.flags / 16 % 8
-}
-
-// The thermostat of a place, a fresh one where there is none.
-pub fn thermostat_at(hs: [Thermostat; 16], k: usize) -> Thermostat
-    ensures { result ≡ get_or hs k fresh_thermostat }
-{
-    if k < 16 {
-        let h = hs[k];
-        return h;
-    }
-    Thermostat {
-        flags: 0,
-        tempx: 0,
-        tempy: 0,
-        time: Seconds(0),
-        err: 0,
-    }
 }
 
 // Whether a thermostat leaves its output to commands.

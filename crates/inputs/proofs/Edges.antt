@@ -8,7 +8,7 @@ use lib.ListN.{length, get_or}
 use Rattle.lists.specs.Tests.{any}
 use Rattle.lists.specs.Mapi.{mapi}
 use Rattle.lists.specs.Numbers.{bit_at}
-use Rattle.lists.proofs.Done.{get_d_mapi, length-mapi}
+use Rattle.lists.proofs.Done.{get_or-mapi, length-mapi}
 use Rattle.lists.proofs.Somes.{some_any, some_false, some_of, none_below, mapi-alike, mapi-same}
 use Rattle.model.specs.declared.Inputs.{Inputs}
 use Rattle.model.specs.declared.Line.{Line}
@@ -28,7 +28,7 @@ pub by_found : (found : List Bool) (was now : List Line) (modes cs : List ℕ) �
     → mapi (λ i c. counted (get_or found i false) c) cs ≡ counters_sampled modes was now cs
 unfolding selected_lines counters_sampled
 by_found found was now modes cs e h =
-    mapi-alike _ _ cs 0 (λ i l. rw (h, get_d_mapi (λ k x. selected_edge (get_or modes k 0) x (get_or now k fresh_line)) was i fresh_line false (omega arith)))
+    mapi-alike _ _ cs 0 (λ i l. rw (h, get_or-mapi (λ k x. selected_edge (get_or modes k 0) x (get_or now k fresh_line)) was i fresh_line false (omega arith)))
 
 -- without an edge the mask picks none
 pub no_mask : (mask : ℕ) (edged : List Bool) → any (λ b. b) edged ≡ false → any_masked mask edged ≡ false

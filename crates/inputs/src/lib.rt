@@ -89,8 +89,7 @@ pub fn any_edge(edged: [bool; 16]) -> bool
     ensures { result ≡ any (λ b. b) edged }
 {
     let mut found = false;
-    for i in 0..16usize {
-        let edge = edged[i];
+    for edge in edged {
         found = found | edge;
     }
     found
@@ -113,15 +112,7 @@ pub fn any_masked(mask: u16, edged: [bool; 16]) -> bool
 pub fn stable_bits(a: [Line; 16]) -> u16
     ensures { result ≡ stable_bits a }
 {
-    let mut bits: u16 = 0;
-    let mut i = 16usize;
-    while 0 < i {
-        i = i - 1;
-        let x = a[i];
-        let s = x.stable as u16;
-        bits = s + 2 * (bits % 32768);
-    }
-    bits
+    encoding::bits_of(a.map(|x| x.stable))
 }
 
 // The inputs' part of a sample. Without an edge no counter moves, and the pass over them is left out.

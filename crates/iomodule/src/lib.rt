@@ -1,34 +1,27 @@
 // The five calls: fresh, sample, temperature, spinel, modbus; and what demands 1 and 3 say of them.
 #![tactic(auto)]
 
-ghost use Rattle.std.specs.Prelude.{◌≡◌, ◌≤◌, length, take};
+ghost use Rattle.std.specs.Prelude.{◌≡◌, ◌≤◌, length};
 ghost use Rattle.lists.specs.Data.{bytes_in, over};
 ghost use Rattle.model.specs.State.{fresh_module};
+ghost use Rattle.model.specs.Numbers.{refusal_in};
 ghost use Rattle.model.specs.Refusals.{silent, buffer_short};
+ghost use Rattle.model.specs.Wire.{frame_handled, frame_call};
 ghost use Rattle.model.specs.Calls.{sample_call, temperature_call, spinel_call, modbus_call, answer_of, Answered};
 ghost use Rattle.model.specs.Demand1.{RefusalsHold};
 ghost use Rattle.model.specs.Cycles.{CyclesConserved, CyclesConservedFrom};
 
-use model::{Answer, Module};
+use modbus::ModbusWire;
+use model::{Answer, Module, Refusal};
 use outcomes::Handled;
+use spinel::SpinelWire;
+use wires::Wire;
 
 // The fifth call: the fresh state.
 pub fn fresh() -> Module
     ensures { result ≡ fresh_module }
 {
     startup::fresh()
-}
-
-// The one function that writes a lent buffer: the first n bytes.
-fn copy_out(bytes: [u8; 256], n: usize, reply: &mut [u8])
-    requires { (n ≤ 256) × (n ≤ length reply.old) }
-    ensures { reply.new ≡ over (take n bytes) reply.old }
-{
-    let mut i = 0;
-    while i < n {
-        reply[i] = bytes[i];
-        i += 1;
-    }
 }
 
 // Condition 1: the lent buffer could not take a frame of 256 bytes.
@@ -43,32 +36,41 @@ fn no_room(m: Module) -> Answer
     ensures { result ≡ answer_of (silent 1 m) }
 {
     Answer {
-        refusal: 1,
+        refusal: Refusal::ShortBuffer.number(),
         len: 0,
         after: m,
     }
 }
 
-// The answer to what was handled; its reply is written to the lent buffer.
+// The answer to what was handled. Its reply is written to the lent buffer, by the one line that writes one.
 fn reply_out(h: Handled, reply: &mut [u8]) -> Answer
     requires { (h.reply.len ≤ 256) × (h.reply.len ≤ length reply.old) }
-    ensures value { result ≡ record { refusal = h.refusal; len = h.reply.len; after = h.after } }
+    ensures value { result ≡ record { refusal = refusal_in h.refusal; len = h.reply.len; after = h.after } }
     ensures reply_after { reply.new ≡ over (bytes_in h.reply) reply.old }
 {
-    let refusal = h.refusal;
-    let after = h.after;
-    let d = h.reply;
-    let bytes = d.bytes;
-    let len = d.len;
-    copy_out(bytes, len, reply);
+    let len = h.reply.len;
+    reply[..len].copy_from_slice(&h.reply.items[..len]);
     Answer {
-        refusal,
+        refusal: h.refusal.map_or(0, Refusal::number),
         len,
-        after,
+        after: h.after,
     }
 }
 
+// A frame of any bytes on either port: refusal 1, else what the frame comes to.
+#[tactic(auto, unfolding(model::specs::Wire::frame_call))]
+fn frame_call<W: Wire>(m: Module, frame: &[u8], reply: &mut [u8]) -> Answer
+    requires { length (frame_handled W.wire frame.now m).reply ≤ 256 }
+    ensures { Answered (frame_call W.wire (length reply.old) frame.now m) result reply.old reply.new }
+{
+    if is_short(reply.len()) {
+        return no_room(m);
+    }
+    reply_out(wires::handle::<W>(m, frame), reply)
+}
+
 // The millisecond sample: sixteen bits, bit 0 for input 1.
+#[tactic(auto, unfolding(model::specs::Calls::sample_call))]
 pub fn sample(m: Module, bits: u16, reply: &mut [u8]) -> Answer
     ensures { Answered (sample_call (length reply.old) bits m) result reply.old reply.new }
 {
@@ -89,24 +91,18 @@ pub fn temperature(m: Module, good: bool, tenths: i16) -> Answer
     }
 }
 
-// A Spinel frame of any bytes: refusal 1, else what the frame comes to.
+// A frame on the Spinel port.
 pub fn spinel(m: Module, frame: &[u8], reply: &mut [u8]) -> Answer
     ensures { Answered (spinel_call (length reply.old) frame.now m) result reply.old reply.new }
 {
-    if is_short(reply.len()) {
-        return no_room(m);
-    }
-    reply_out(spinel::handle(m, frame), reply)
+    frame_call::<SpinelWire>(m, frame, reply)
 }
 
-// A Modbus frame of any bytes: refusal 1, else what the frame comes to.
+// A frame on the Modbus port.
 pub fn modbus(m: Module, frame: &[u8], reply: &mut [u8]) -> Answer
     ensures { Answered (modbus_call (length reply.old) frame.now m) result reply.old reply.new }
 {
-    if is_short(reply.len()) {
-        return no_room(m);
-    }
-    reply_out(modbus::handle(m, frame), reply)
+    frame_call::<ModbusWire>(m, frame, reply)
 }
 
 // Demand 1: of every call in every state, by which number it is refused and what a refusal leaves, in the definitions that the

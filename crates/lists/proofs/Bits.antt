@@ -1,11 +1,11 @@
 -- The number of some bits: one turn of a loop over sixteen elements, from the last down, and parts of them by their number. Assumes nothing.
-use Prim.Native.Nat.{ℕ, zero, suc, ◌+◌, ◌*◌, ◌-◌, ◌^◌, ◌<◌, ◌≤◌, ◌/◌, ◌%◌}
+use Prim.Native.Nat.{ℕ, zero, suc, ◌+◌, ◌*◌, ◌^◌, ◌<◌, ◌≤◌, ◌/◌, ◌%◌}
 use native.Mathlib.Nat.{pow-suc, le_of_suc-le-suc, not-suc-le-zero, pow-succ', mod-lt, mod-one, mod-eq_of_lt, zero-mod, zero-div, div-one, div-add-mod, div-div-eq-div-mul, mul-add-mod_self_left}
 use native.Mathlib.Omega.{arith}
 use mathlib.Core.Path.{◌≡◌, refl, sym, ap, ◌∙◌}
 use mathlib.Core.Bool.{Bool, true, false, cond}
 use mathlib.Core.List.{List, [], ◌∷◌, map}
-use lib.ListN.{length, get_or, drop, length-drop, drop_of_length-le, take}
+use lib.ListN.{length, drop, take}
 use mir.Val.{bool_byte}
 use Rattle.lists.specs.Numbers.{bits_number}
 use lib.Pow.{pow_pos}
@@ -19,38 +19,18 @@ pub bit_most : (b : Bool) → cond b 1 0 ≤ 1
 bit_most true = omega arith
 bit_most false = omega arith
 
-pub byte_most : (b : Bool) → bool_byte b ≤ 1
-byte_most b = rw byte_bit (bit_most b)
+-- n bits at most
+pub bits_below : (n : ℕ) (bs : List Bool) → length bs ≤ n → bits_number bs < 2 ^ n
+unfolding bits_number
+bits_below zero [] h = omega arith
+bits_below zero (b ∷ bs) h = absurd (not-suc-le-zero h)
+bits_below (suc n) [] h = rw pow-suc (omega (arith, bits_below n [] (omega arith)))
+bits_below (suc n) (b ∷ bs) h = rw pow-suc (omega (arith, bits_below n bs (le_of_suc-le-suc h), bit_most b))
 
-module _ {A : Type 0} (f : A → Bool) where
-  -- n bits at most
-  bits_below : (n : ℕ) (l : List A) → length l ≤ n → bits_number (map f l) < 2 ^ n
-  unfolding bits_number
-  bits_below zero [] h = omega arith
-  bits_below zero (x ∷ l) h = absurd (not-suc-le-zero h)
-  bits_below (suc n) [] h = rw pow-suc (omega (arith, bits_below n [] (omega arith)))
-  bits_below (suc n) (x ∷ l) h = rw pow-suc (omega (arith, bits_below n l (le_of_suc-le-suc h), bit_most (f x)))
-
-  -- fifteen at most are left after the first: there is room for one more
-  pub bits_half : (l : List A) (i : ℕ) → length l ≡ 16 → 0 < i → bits_number (map f (drop i l)) < 2 ^ 15
-  bits_half l i e h = bits_below 15 (drop i l) (simp length-drop (omega arith))
-
-  step : (l : List A) (d : A) (j : ℕ) → j < length l → bool_byte (f (get_or l j d)) + 2 * bits_number (map f (drop (suc j) l)) ≡ bits_number (map f (drop j l))
-  unfolding bits_number
-  step [] d j h = absurd (not-suc-le-zero h)
-  step (x ∷ l) d zero h = rw (byte_bit (f x))
-  step (x ∷ l) d (suc j) h = step l d j (le_of_suc-le-suc h)
-
-  -- one bit more below
-  pub bits_turn : (l : List A) (d : A) (i : ℕ) → 0 < i → i ≤ length l → bool_byte (f (get_or l (i - 1) d)) + 2 * bits_number (map f (drop i l)) ≡ bits_number (map f (drop (i - 1) l))
-  bits_turn l d i p h =
-      let next : suc (i - 1) ≡ i = omega arith in
-      rw next at (step l d (i - 1) (omega arith))
-
-  -- none yet
-  pub bits_none : (l : List A) → length l ≡ 16 → ◌≡◌ {A = ℕ} 0 (bits_number (map f (drop 16 l)))
-  unfolding bits_number
-  bits_none l e = rw (drop_of_length-le l {i = 16} (omega arith))
+-- one bit more below at most fifteen, which leave room for it
+pub bits_more : (b : Bool) (bs : List Bool) → length bs ≤ 15 → bool_byte b + 2 * (bits_number bs % 32768) ≡ bits_number (b ∷ bs)
+unfolding bits_number
+bits_more b bs h = rw (byte_bit b, mod-eq_of_lt (bits_below 15 bs h))
 
 -- Parts of some bits, by their number ----------------------------------------------------
 

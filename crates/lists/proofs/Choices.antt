@@ -2,10 +2,10 @@
 use Prim.Native.Nat.{ℕ, suc, ◌≤◌, ◌<◌}
 use native.Mathlib.Omega.{arith}
 use lib.Dec.{eqb, leb, ltb, leb-zero}
-use borrow.Author.Tests.{eqb-true, leb-true, leb-false, le-leb, le-ltb, lt-ltb, not-true, not-false}
-use mathlib.Core.Path.{◌≡◌, refl, sym, ◌∙◌, ap}
+use borrow.Author.Tests.{eqb-true, leb-true, leb-false, le-leb, le-ltb, lt-ltb}
+use mathlib.Core.Path.{◌≡◌, refl, sym, ap}
 use mathlib.Core.Bool.{Bool, true, false, cond, not, ◌&&◌, ◌||◌, and-true}
-use mathlib.Core.List.{List, [], ◌∷◌}
+use mathlib.Core.List.{List, ◌∷◌}
 use Rattle.lists.specs.Tests.{within, all, any}
 
 -- by the test's two results
@@ -108,12 +108,6 @@ module _ (low high x : ℕ) where
   unfolding within
   ends_within = rw (below x low, below high x) (sym (not-and (leb low x) (leb x high)))
 
-  pub ends_outside : (ltb x low || ltb high x) ≡ true → within low high x ≡ false
-  ends_outside e = not-true _ (sym ends_within ∙ e)
-
-  pub ends_inside : (ltb x low || ltb high x) ≡ false → within low high x ≡ true
-  ends_inside e = not-false _ (sym ends_within ∙ e)
-
 -- a byte is at most 255
 pub byte_within : (t : ℕ) → t < 256 → leb 1 t ≡ within 1 255 t
 unfolding within
@@ -150,17 +144,3 @@ module _ {A : Type 0} (f : A → Bool) (x : A) (xs : List A) (h : any f (x ∷ x
   pub any_rest : any f xs ≡ false
   unfolding any
   any_rest = (by_none (f x) refl h).1
-
--- one turn of a loop that tests each element, from how the list's first is taken
-module _ {A : Type 0} (f : A → Bool) where
-  pub all_goes : (l rest : List A) (x : A) → l ≡ x ∷ rest → f x ≡ true → all f rest ≡ all f l
-  unfolding all
-  all_goes l rest x q e = rw (q, e)
-
-  pub all_stops : (l rest : List A) (x : A) → l ≡ x ∷ rest → f x ≡ false → false ≡ all f l
-  unfolding all
-  all_stops l rest x q e = rw (q, e)
-
-  pub all_ends : (l : List A) → l ≡ [] → true ≡ all f l
-  unfolding all
-  all_ends l q = rw q

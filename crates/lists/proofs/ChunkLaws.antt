@@ -52,16 +52,3 @@ piece k i l d h = rw (drop-cons l i d h, add-one)
 pub entries_cons : (w i : ℕ) (d : List ℕ) → 0 < w → i + w ≤ length d → entries w (drop i d) ≡ entry_of (take w (drop i d)) ∷ entries w (drop (i + w) d)
 unfolding entries
 entries_cons w i d p h = ap (map entry_of) (chunks_cons w i d p h)
-
--- triples, byte by byte
-module _ (l : List ℕ) (i : ℕ) where
-  pub triples_cons : i + 3 ≤ length l → chunks 3 (drop i l) ≡ (get_or l i 0 ∷ get_or l (i + 1) 0 ∷ get_or l (i + 2) 0 ∷ []) ∷ chunks 3 (drop (i + 3) l)
-  triples_cons h =
-      let two : i + 1 + 1 ≡ i + 2 = omega arith in
-      chunks_cons 3 i l (omega arith) h
-      ∙ ap (◌∷ chunks 3 (drop (i + 3) l))
-      (piece 2 i l 0 (omega arith)
-      ∙ ap (get_or l i 0 ∷◌) (piece 1 (i + 1) l 0 (omega arith) ∙ rw two (ap (get_or l (i + 1) 0 ∷◌) (piece 0 (i + 2) l 0 (omega arith)))))
-
-  pub triples_none : length l < i + 3 → chunks 3 (drop i l) ≡ []
-  triples_none h = chunks_none 3 i l h (omega arith)

@@ -7,9 +7,9 @@ use native.Mathlib.Nat.{le_of_eq}
 use native.Mathlib.Omega.{arith}
 use borrow.Author.Tests.{lt-ltb}
 use lib.ListN.{length, set, take, drop, get_or, length-append, length-drop, drop_of_length-le, length-map, replicate, length-replicate, replicate-append-replicate}
-use lib.Seq.{set-append_seam, append_snoc, take-suc, set_at, get_or-take, drop-cons, length-take-le, take-append_seam, get_or-append-add, get_or-drop, take_all}
+use lib.Seq.{set-append_seam, append_snoc, take-suc, set_at, drop-cons, length-take-le, take-append_seam, get_or-append-add, get_or-drop, take_all}
 use Rattle.lists.specs.Data.{data_of, pushed, extended, bytes_in, filled, padded, over}
-use Rattle.lists.specs.declared.Data.{Data}
+use Rattle.lists.specs.Data.{Data}
 use Rattle.lists.specs.Numbers.{bytes}
 use mathlib.Core.Bool.{Bool, true, false, cond}
 use Rattle.lists.proofs.ChunkLaws.{rest_first}
@@ -93,19 +93,6 @@ bytes_in_lem l = take-append_seam l _
 -- an array in a field of a struct parameter has its elements
 pub field_length : (xs : List ℕ) {n : ℕ} → length (map (λ (v : ℕ). v) xs) ≡ n → length xs ≡ n
 field_length xs e = sym (length-map xs (λ (v : ℕ). v)) ∙ e
-
-module _ (xs : List ℕ) (n i : ℕ) (fits : n ≤ length xs) where
-  pub rest_cons : i < n → drop i (take n xs) ≡ get_or xs i 0 ∷ drop (i + 1) (take n xs)
-  rest_cons h =
-      let some : i < length (take n xs) = omega (arith, length-take-le n xs fits) in
-      rw (drop-cons (take n xs) i 0 some, get_or-take n xs i 0 h, add-one)
-
-  pub rest_none : n ≤ i → drop i (take n xs) ≡ []
-  rest_none h = drop_of_length-le (take n xs) {i = i} (omega (arith, length-take-le n xs fits))
-
-  pub extend_turn : (d : Data) → i < n → extended (pushed d (get_or xs i 0)) (drop (i + 1) (take n xs)) ≡ extended d (drop i (take n xs))
-  unfolding extended
-  extend_turn d h = rw (rest_cons h)
 
 -- a store at i of a buffer whose first i elements are those of xs
 pub over_turn : {A : Type 0} (d : A) (xs old : List A) (i : ℕ) → i < length xs → i < length old → set (take i xs ++ drop i old) i (get_or xs i d) ≡ take (i + 1) xs ++ drop (i + 1) old

@@ -9,3 +9,4 @@ pub mod DataLaws
 pub mod Somes
 pub mod Loops
 pub mod EntryLaws
+pub mod Chains

@@ -2,7 +2,7 @@
 use Prim.Native.Nat.{ℕ, ◌+◌, ◌<◌, ◌≤◌}
 use native.Mathlib.Numerals.{add-one}
 use mathlib.Core.Path.{◌≡◌, refl}
-use mathlib.Core.Bool.{Bool, true, false, cond}
+use mathlib.Core.Bool.{Bool, true}
 use mathlib.Core.List.{List, [], ◌∷◌, foldl}
 use lib.ListN.{length, get_or, drop, drop_of_length-le}
 use lib.Seq.{drop-cons}
@@ -25,33 +25,8 @@ module _ {E S : Type 0} (step : S → E → S) (s : S) (l : List E) {n : ℕ} (s
   pub each_ends : n ≤ i → s ≡ foldl step s (drop i l)
   each_ends h = rw (left_none l size i h)
 
--- each tested
-module _ {E : Type 0} (ok : E → Bool) (l : List E) {n : ℕ} (size : n ≡ length l) (i : ℕ) where
-  pub test_goes : (d : E) → i < n → ok (get_or l i d) ≡ true → all ok (drop (i + 1) l) ≡ all ok (drop i l)
-  unfolding all
-  test_goes d h e = rw (left_some l size i d h, e)
-
-  pub test_stops : (d : E) → i < n → ok (get_or l i d) ≡ false → false ≡ all ok (drop i l)
-  unfolding all
-  test_stops d h e = rw (left_some l size i d h, e)
-
-  pub test_ends : n ≤ i → true ≡ all ok (drop i l)
-  unfolding all
-  test_ends h = rw (left_none l size i h)
-
 -- two steps that agree on what passes a test come to the same on a list that does
 pub same_steps : {E S : Type 0} (ok : E → Bool) (step step' : S → E → S) → ((s : S) (e : E) → ok e ≡ true → step s e ≡ step' s e)
     → (l : List E) (s : S) → all ok l ≡ true → foldl step s l ≡ foldl step' s l
 same_steps ok step step' same [] s h = refl
 same_steps ok step step' same (e ∷ l) s h = rw (same s e (all_first ok e l h)) (same_steps ok step step' same l (step' s e) (all_rest ok e l h))
-
--- one looked for: g is true from the first that t finds on, by it and those behind it
-module _ {E : Type 0} (g : List E → Bool) (t : E → List E → Bool) (some : (x : E) (l : List E) → g (x ∷ l) ≡ cond (t x l) true (g l)) (l : List E) {n : ℕ} (size : n ≡ length l) (i : ℕ) where
-  pub find_goes : (d : E) → i < n → t (get_or l i d) (drop (i + 1) l) ≡ false → g (drop (i + 1) l) ≡ g (drop i l)
-  find_goes d h e = rw (left_some l size i d h, some, e)
-
-  pub find_stops : (d : E) → i < n → t (get_or l i d) (drop (i + 1) l) ≡ true → true ≡ g (drop i l)
-  find_stops d h e = rw (left_some l size i d h, some, e)
-
-  pub find_ends : n ≤ i → g [] ≡ g (drop i l)
-  find_ends h = rw (left_none l size i h)

@@ -1,20 +1,17 @@
 -- Parts of a list. Assumes nothing.
-use Prim.Native.Nat.{ℕ, zero, suc, ◌+◌, ◌-◌, ◌<◌, ◌≤◌, min}
+use Prim.Native.Nat.{ℕ, zero, suc, ◌+◌, ◌-◌, ◌≤◌, min}
 use native.Mathlib.Omega.{arith}
 use native.Mathlib.Nat.{zero-min, min-zero, suc-min-suc, min_comm}
-use mathlib.Core.Path.{◌≡◌, refl, sym, ap, ◌∙◌}
+use mathlib.Core.Path.{◌≡◌, refl, ap, ◌∙◌}
 use mathlib.Core.List.{List, [], ◌∷◌, ◌++◌}
 use lib.ListN.{length, get_or, take, drop, replicate, length-drop}
-use lib.Seq.{get_or-take, get_or-drop, length-take-le}
+use lib.Seq.{length-take-le}
 use Rattle.lists.proofs.ChunkLaws.{piece}
 
 -- n elements from place k on
 module _ (ws : List ℕ) (k n : ℕ) (fits : k + n ≤ length ws) where
   pub part_length : length (take n (drop k ws)) ≡ n
   part_length = length-take-le n (drop k ws) (simp length-drop (omega arith))
-
-  pub part_word : (i : ℕ) → i < n → get_or ws (k + i) 0 ≡ get_or (take n (drop k ws)) i 0
-  part_word i h = sym (get_or-take n (drop k ws) i 0 h ∙ get_or-drop k ws i 0)
 
 -- a part that ends before the second list begins
 pub part_first : (xs ys : List ℕ) (k n : ℕ) → k + n ≤ length xs → take n (drop k (xs ++ ys)) ≡ take n (drop k xs)

@@ -41,7 +41,3 @@ pub all_on : {E S : Type 0} (ok : E → Bool) (step : S → E → S) (es : List 
 unfolding all_pass all
 all_on ok step [] s = refl
 all_on ok step (e ∷ es) s = rw (all_on ok step es (step s e))
-
--- one turn of a loop that applies each
-pub fold_turn : {E S : Type 0} (step : S → E → S) (s : S) (es rest : List E) (e : E) → es ≡ e ∷ rest → foldl step (step s e) rest ≡ foldl step s es
-fold_turn step s es rest e q = rw q

@@ -1,6 +1,9 @@
 -- Reply data by value, and lent buffers.
 use Rattle.std.specs.Prelude.{cond, List, [], ◌∷◌, ◌++◌, ℕ, ◌+◌, ◌-◌, length, take, drop, set, replicate, ltb}
-use Rattle.lists.specs.declared.Data.{Data}
+use Rattle.lists.specs.declared.Bounded.{Bounded}
+
+abbrev pub Data : Type 0
+Data = Bounded ℕ 256
 
 -- l, and d up to n elements
 abbrev pub filled : {A : Type 0} → ℕ → A → List A → List A
@@ -11,11 +14,11 @@ unfoldable pub padded : List ℕ → List ℕ
 padded l = filled 256 0 l
 
 abbrev pub data_of : List ℕ → Data
-data_of l = record { bytes = padded l; len = length l }
+data_of l = record { items = padded l; len = length l }
 
 -- one byte more, while there is room
 unfoldable pub pushed : Data → ℕ → Data
-pushed d b = cond (ltb d.len 256) (record { bytes = set d.bytes d.len b; len = d.len + 1 }) d
+pushed d b = cond (ltb d.len 256) (record { items = set d.items d.len b; len = d.len + 1 }) d
 
 unfoldable pub extended : Data → List ℕ → Data
 extended d [] = d
@@ -23,7 +26,7 @@ extended d (b ∷ bs) = extended (pushed d b) bs
 
 -- the bytes that count
 abbrev pub bytes_in : Data → List ℕ
-bytes_in d = take d.len d.bytes
+bytes_in d = take d.len d.items
 
 -- a buffer after bs was written at its start: bytes beyond are as they were
 abbrev pub over : List ℕ → List ℕ → List ℕ

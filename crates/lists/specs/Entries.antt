@@ -4,7 +4,10 @@ use Rattle.lists.specs.Numbers.{number}
 use Rattle.lists.specs.Chunks.{chunks}
 use Rattle.lists.specs.Data.{filled}
 use Rattle.lists.specs.declared.Entry.{Entry}
-use Rattle.lists.specs.declared.Entries.{Entries}
+use Rattle.lists.specs.declared.Bounded.{Bounded}
+
+abbrev pub Entries : Type 0
+Entries = Bounded Entry 16
 
 abbrev pub entry : ℕ → ℕ → Entry
 entry n v = record { number = n; value = v }

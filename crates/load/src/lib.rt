@@ -24,7 +24,7 @@ pub struct Played {
 fn next_seed(seed: u32) -> u32
     ensures { result ≡ next_seed seed }
 {
-    ((seed as u64 % 2147483648 * 1103515245 + 12345) % 2147483648) as u32
+    ((u64::from(seed) % 2147483648 * 1103515245 + 12345) % 2147483648) as u32
 }
 
 // Now and then one input changes.
@@ -72,15 +72,12 @@ fn play_one(noisy: bool, p: Played, reply: &mut [u8]) -> Played
     ensures value { result ≡ play_one (length reply.old) noisy p }
     ensures reply_after { reply.new ≡ buffer_one (length reply.old) noisy p reply.old }
 {
-    let m = p.after;
-    let last = p.source;
-    let s = source_next(noisy, last);
-    let a = iomodule::sample(m, s.level, reply);
-    let after = a.after;
+    let source = source_next(noisy, p.source);
+    let a = iomodule::sample(p.after, source.level, reply);
     Played {
-        after,
-        source: s,
-        written: std::num::wrapping_add_u64(p.written, a.len as u64),
+        after: a.after,
+        source,
+        written: p.written.wrapping_add(a.len as u64),
     }
 }
 
@@ -89,14 +86,11 @@ pub fn play(noisy: bool, n: u32, p: Played, reply: &mut [u8]) -> Played
     ensures value { result ≡ play_many (length reply.old) noisy n p }
     ensures reply_after { reply.new ≡ buffer_many (length reply.old) noisy n p reply.old }
 {
-    let mut q = p;
-    let mut i = 0;
-    while i < n {
-        let t = play_one(noisy, q, reply);
-        q = t;
-        i += 1;
+    let mut after = p;
+    for _turn in 0..n {
+        after = play_one(noisy, after, reply);
     }
-    q
+    after
 }
 
 // The state to start from: every input counts by `mode` and tells by the mask; four pulses, and twelve of `rest` samples.
@@ -104,6 +98,7 @@ pub fn start(sampling: u8, mode: u8, mask: u16, rest: u32) -> Played
     ensures { result ≡ start_of sampling mode mask rest }
 {
     let f = startup::fresh();
+    // Through a variable: an array that is stored in a field of a field gets no proof.
     let mut settings = f.settings;
     settings.modes = [mode; 16];
     settings.sampling = sampling;
@@ -115,16 +110,12 @@ pub fn start(sampling: u8, mode: u8, mask: u16, rest: u32) -> Played
         on: true,
         left: rest,
     }; 16];
-    outputs[0] = first;
-    outputs[1] = first;
-    outputs[2] = first;
-    outputs[3] = first;
-    let notice = Notice {
+    outputs[..4].fill(first);
+    settings.notice = Notice {
         format: 0x61,
         mask,
         signature: 2,
     };
-    settings.notice = notice;
     Played {
         after: Module {
             outputs,
@@ -143,26 +134,19 @@ pub fn start(sampling: u8, mode: u8, mask: u16, rest: u32) -> Played
 fn left_by(counter: u32, o: Output) -> u64
     ensures { result ≡ left_by counter o }
 {
-    let both = (counter as u64) + (o.left as u64);
-    if o.on {
-        return both + 1;
-    }
-    both
+    u64::from(counter) + u64::from(o.left) + u64::from(o.on)
 }
 
 // Counters, outputs and the bytes of the notices, added up: a compiler may leave out what nobody asks for.
 fn sum(p: Played) -> u64
     ensures { result ≡ summed p }
 {
-    let m = p.after;
-    let x = m.inputs;
-    let counters = x.counters;
-    let outputs = m.outputs;
+    let counters = p.after.inputs.counters;
+    let outputs = p.after.outputs;
     let mut total = p.written;
-    for i in 0..16usize {
-        let counter = counters[i];
-        let o = outputs[i];
-        total = std::num::wrapping_add_u64(total, left_by(counter, o));
+    // By place: a sum over `zip` would be no plainer, since `sum_of` reads both lists at one place.
+    for i in 0..16 {
+        total = total.wrapping_add(left_by(counters[i], outputs[i]));
     }
     total
 }
@@ -181,6 +165,5 @@ pub extern "C" fn load_play(
     ensures value { result ≡ summed (play_many (length reply.old) noisy n (start_of sampling mode mask rest)) }
     ensures reply_after { reply.new ≡ buffer_many (length reply.old) noisy n (start_of sampling mode mask rest) reply.old }
 {
-    let p = play(noisy, n, start(sampling, mode, mask, rest), reply);
-    sum(p)
+    sum(play(noisy, n, start(sampling, mode, mask, rest), reply))
 }

@@ -1,29 +1,34 @@
--- Condition 8, and what the functions that read come to. Assumes nothing.
-use Prim.Native.Nat.{ℕ}
-use mathlib.Core.Path.{◌≡◌, refl, ap, ◌∙◌}
-use mathlib.Core.Bool.{Bool, true, false, cond}
-use mathlib.Core.List.{List}
+-- Condition 8, the first that a listed function may break. Assumes nothing.
+use Rattle.std.proofs.Common.{◌≡◌, sym, ap, ◌∙◌, ℕ, Bool, true, false, Err}
+use mathlib.Core.Bool.{cond, or-true, or-false}
 use Rattle.model.specs.declared.Module.{Module}
-use Rattle.model.specs.Refusals.{Request, refuse, reading, judged}
-use Rattle.model.specs.Modbus.{quantity_wrong}
-use Rattle.encoding.specs.Answers.{told_of}
-use Rattle.outcomes.specs.Parts.{served_of, plain, told_about}
-use Rattle.outcomes.proofs.Laws.{length-refused, length_right, told_law}
-use Rattle.modbus_bodies.specs.Parts.{read_as}
+use Rattle.model.specs.declared.Refusal.{Refusal}
+use Rattle.model.specs.Numbers.{number_of}
+use Rattle.model.specs.Refusals.{Request, refuse, refusal_of, judged}
+use Rattle.model.proofs.Refusing.{stops, passes}
+use Rattle.lists.specs.Data.{data_of}
+use Rattle.encoding.specs.Answers.{told, told_of}
+use Rattle.encoding.proofs.Telling.{told_refused}
+use Rattle.outcomes.specs.Parts.{outcome, served_of}
+use Rattle.outcomes.proofs.Laws.{length_right, refused_at}
 
--- a body of a wrong length, byte count or quantity, whatever the listed function
-pub refused_8 : (m : Module) (q : Request Module) (wrong : Bool) → wrong ≡ true → q.holds 7 ≡ false → plain 8 m ≡ served_of (judged m (refuse 8 wrong q))
-refused_8 m q wrong e h = ap served_of (length-refused m q wrong e h)
+eight_first : {P : Type 0} (q : Request P) (wrong : Bool) → q.holds 7 ≡ false → refusal_of (refuse 8 wrong q) ≡ cond wrong 8 (refusal_of q)
+unfolding refusal_of
+eight_first q true h = rw (h, or-true (q.holds 8))
+eight_first q false h = rw (or-false (q.holds 8))
 
--- and one that passes
-pub passed_8 : (m : Module) (q : Request Module) (wrong : Bool) → wrong ≡ false → served_of (judged m q) ≡ served_of (judged m (refuse 8 wrong q))
-passed_8 m q wrong e = ap served_of (length_right m q wrong e)
+-- of a function that reads
+module _ (q : Request (Unit {0})) (wrong : Bool) where
+  pub read_refused : (r : Refusal) → q.holds 7 ≡ false → number_of r ≡ cond wrong 8 0 → told (Err r) ≡ told_of (refuse 8 wrong q)
+  read_refused r h e = told_refused (refuse 8 wrong q) r (stops wrong 8 _ r e ∙ sym (eight_first q wrong h))
 
--- what a function that reads comes to
-pub read_law : (most : ℕ) (b : List ℕ) (m : Module) (q : Request (Unit {0})) → q.holds 7 ≡ false
-    → read_as most b m (told_of q) ≡ served_of (judged m (reading m (refuse 8 (quantity_wrong most b) q)))
-read_law most b m q h = go (quantity_wrong most b)
-  where
-    go : (t : Bool) → cond t (plain 8 m) (told_about m (told_of q)) ≡ served_of (judged m (reading m (refuse 8 t q)))
-    go true = refused_8 m (reading m q) true refl h
-    go false = told_law m q ∙ passed_8 m (reading m q) false refl
+  pub read_passed : ◌≡◌ {A = ℕ} 0 (cond wrong 8 0) → told_of q ≡ told_of (refuse 8 wrong q)
+  read_passed g = ap (λ o. record { refusal = o.refusal; reply = data_of o.reply }) (length_right tt q wrong (passes wrong 7 g))
+
+-- and of one that writes
+module _ (m : Module) (q : Request Module) (wrong : Bool) where
+  pub write_refused : (r : Refusal) → q.holds 7 ≡ false → number_of r ≡ cond wrong 8 0 → outcome m (Err r) ≡ served_of (judged m (refuse 8 wrong q))
+  write_refused r h e = refused_at m (refuse 8 wrong q) r (stops wrong 8 _ r e ∙ sym (eight_first q wrong h))
+
+  pub write_passed : ◌≡◌ {A = ℕ} 0 (cond wrong 8 0) → served_of (judged m q) ≡ served_of (judged m (refuse 8 wrong q))
+  write_passed g = ap served_of (length_right m q wrong (passes wrong 7 g))

@@ -5,7 +5,7 @@ use mathlib.Core.Path.{◌≡◌, refl, ap, ◌∙◌}
 use mathlib.Core.Bool.{Bool, true, false, cond}
 use lib.ListN.{length, get_or, replicate, get_or-replicate}
 use Rattle.lists.specs.Numbers.{bit_at}
-use Rattle.lists.proofs.Done.{get_d_mapi, length-mapi}
+use Rattle.lists.proofs.Done.{get_or-mapi, length-mapi}
 use Rattle.model.specs.declared.Module.{Module}
 use Rattle.model.specs.declared.Line.{Line}
 use Rattle.model.specs.State.{fresh_line, fresh_module}
@@ -83,12 +83,12 @@ module _ (i : ℕ) (small : i < 16) (x : Counting) (n : ℕ) (u : Account) (bits
 
   line_at : get_or (lines_sampled x.sampling bits x.lines) i fresh_line ≡ now
   unfolding lines_sampled
-  line_at = get_d_mapi (λ k y. line_sampled x.sampling (bit_at bits k) y) x.lines i fresh_line fresh_line (omega (arith, v.lines)) ∙ rw v.sampling
+  line_at = get_or-mapi (λ k y. line_sampled x.sampling (bit_at bits k) y) x.lines i fresh_line fresh_line (omega (arith, v.lines)) ∙ rw v.sampling
 
   counter_at : get_or (counters_sampled x.modes x.lines (lines_sampled x.sampling bits x.lines) x.counters) i 0 ≡ counted (selected_edge u.mode was now) (get_or x.counters i 0)
   unfolding counters_sampled
   counter_at =
-      get_d_mapi (λ k c. counted (selected_edge (get_or x.modes k 0) (get_or x.lines k fresh_line) (get_or (lines_sampled x.sampling bits x.lines) k fresh_line)) c) x.counters i 0 0 (omega (arith, v.counters))
+      get_or-mapi (λ k c. counted (selected_edge (get_or x.modes k 0) (get_or x.lines k fresh_line) (get_or (lines_sampled x.sampling bits x.lines) k fresh_line)) c) x.counters i 0 0 (omega (arith, v.counters))
       ∙ rw (line_at, v.mode)
 
   account_after : sampled_account n (sampled_bit bits (suc i)) u ≡ account now.stable now.run u.mode (u.edges + cond (selected_edge u.mode was now) 1 0) u.collected

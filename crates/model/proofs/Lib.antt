@@ -34,3 +34,4 @@ pub mod Conservation
 pub mod PartsKept
 pub mod Puts
 pub mod Permissions
+pub mod Refusing

@@ -17,3 +17,4 @@ pub mod Demand1
 pub mod Tally
 pub mod Cycles
 pub mod Parts
+pub mod Numbers

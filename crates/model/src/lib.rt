@@ -1,12 +1,21 @@
 // The module's state, and what a call answers.
-
 #![tactic(auto)]
+
+ghost use Rattle.std.specs.Prelude.{◌≡◌};
+ghost use Rattle.model.specs.Numbers.{number_of};
 
 // One input: its stable state, and the run of samples that differ from it.
 #[derive(Clone, Copy)]
 pub struct Line {
     pub stable: bool,
     pub run: u8,
+}
+
+impl Line {
+    pub const FRESH: Line = Line {
+        stable: false,
+        run: 0,
+    };
 }
 
 // What samples change of the inputs: each line, and what it has counted.
@@ -23,6 +32,10 @@ pub struct Output {
     pub left: u32,
 }
 
+impl Output {
+    pub const FRESH: Output = Output { on: false, left: 0 };
+}
+
 // A time in half seconds: of a pulse, of a preset.
 #[derive(Clone, Copy)]
 pub struct HalfSeconds(pub u8);
@@ -31,14 +44,22 @@ pub struct HalfSeconds(pub u8);
 #[derive(Clone, Copy)]
 pub struct Seconds(pub u8);
 
-// A preset pulse of an output: its type (0: no pulse, 2: it begins with on, 3: with off) and its time.
+// A preset pulse of an output: its type (0: no pulse, 2: it begins with on, 3: with off) and its time. The type is a byte and
+// no enum: any may be stored, and is shown as it is stored.
 #[derive(Clone, Copy)]
 pub struct Preset {
     pub kind: u8,
     pub time: HalfSeconds,
 }
 
-// A thermostat's settings. The flags are FSSKTTTT.
+impl Preset {
+    pub const FRESH: Preset = Preset {
+        kind: 0,
+        time: HalfSeconds(0),
+    };
+}
+
+// A thermostat's settings. The flags are FSSKTTTT. ERR is a byte and no enum: any may be stored, and is shown so.
 #[derive(Clone, Copy)]
 pub struct Thermostat {
     pub flags: u8,
@@ -48,14 +69,25 @@ pub struct Thermostat {
     pub err: u8,
 }
 
-// A reading of the thermometer: the temperature, as tenths and as a float, or a fault.
+impl Thermostat {
+    pub const FRESH: Thermostat = Thermostat {
+        flags: 0,
+        tempx: 0,
+        tempy: 0,
+        time: Seconds(0),
+        err: 0,
+    };
+}
+
+// A reading of the thermometer: the temperature, as tenths and as a float, or a fault, the two cases that 01 names.
 #[derive(Clone, Copy)]
 pub enum Reading {
     Valid(i16, f32),
     Fault,
 }
 
-// The notice of inputs: its format (61H: on, 0: off), its mask, and the signature of the request that switched it on.
+// The notice of inputs: its format (61H: on, 0: off; a byte, shown as it is stored), its mask, and the signature of the
+// request that switched it on.
 #[derive(Clone, Copy)]
 pub struct Notice {
     pub format: u8,
@@ -100,7 +132,48 @@ pub struct Group {
     pub count: u16,
 }
 
-// What a call answers: the refusal's number (0: accepted), the reply's length, the state after.
+// Why a call is refused: 1 to 13, in the order of their numbers.
+#[derive(Clone, Copy)]
+pub enum Refusal {
+    ShortBuffer,
+    FrameLength,
+    Shape,
+    Checksum,
+    Address,
+    Broadcast,
+    Unlisted,
+    DataLength,
+    Range,
+    Permission,
+    Value,
+    Held,
+    Repeated,
+}
+
+impl Refusal {
+    // The number that an answer carries.
+    pub fn number(self) -> u8
+        ensures { result ≡ number_of self }
+    {
+        match self {
+            Refusal::ShortBuffer => 1,
+            Refusal::FrameLength => 2,
+            Refusal::Shape => 3,
+            Refusal::Checksum => 4,
+            Refusal::Address => 5,
+            Refusal::Broadcast => 6,
+            Refusal::Unlisted => 7,
+            Refusal::DataLength => 8,
+            Refusal::Range => 9,
+            Refusal::Permission => 10,
+            Refusal::Value => 11,
+            Refusal::Held => 12,
+            Refusal::Repeated => 13,
+        }
+    }
+}
+
+// What a call answers: the refusal's number (0: accepted), which 01 has it carry, the reply's length, the state after.
 #[derive(Drop)]
 pub struct Answer {
     pub refusal: u8,

@@ -2,17 +2,14 @@
 use Rattle.std.specs.Prelude.{ℕ, ◌/◌, ◌%◌, Bool, cond, not, ◌&&◌, List, eqb, length, get_or}
 use Rattle.lists.specs.Tests.{within, all}
 use Rattle.model.specs.Counters.{is_number, number_in, most_items, items_of, listed}
-use Rattle.number_lists.specs.declared.NumberBits.{NumberBits}
-use Rattle.number_lists.specs.declared.NumberBits.TheVariants.{Whole, LowSix}
 
 -- `items_of` of a list of n bytes
 unfoldable pub items_in : ℕ → ℕ → Bool
 items_in w n = eqb (n % w) 0 && within 1 most_items (n / w)
 
--- a byte's number is one of an input or an output
-abbrev pub has_number : NumberBits → ℕ → Bool
-has_number Whole = is_number
-has_number LowSix = λ p. is_number (number_in p)
+-- the low six bits of a byte are the number of an input or an output
+abbrev pub low_six_number : ℕ → Bool
+low_six_number p = is_number (number_in p)
 
 -- a single 00, which `listed` takes for all
 unfoldable pub asks_all : List ℕ → Bool

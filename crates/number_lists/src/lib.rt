@@ -3,24 +3,17 @@
 
 ghost use Rattle.std.specs.Prelude.{◌≡◌, length, get_or};
 ghost use Rattle.lists.specs.Tests.{all};
+ghost use Rattle.model.specs.Numbers.{refused_by};
 ghost use Rattle.model.specs.Counters.{is_number, every_number, listed};
-ghost use Rattle.number_lists.specs.Items.{items_in, has_number, asks_all, list_refusal};
+ghost use Rattle.number_lists.specs.Items.{items_in, low_six_number, asks_all, list_refusal};
 
-// Which bits of a byte are its number: all, or, in a parameter of 60H, the low six.
-#[derive(Clone, Copy)]
-pub enum NumberBits {
-    Whole,
-    LowSix,
-}
+use model::Refusal;
 
 // Whether n bytes are 1 to 12 items of w bytes each, and nothing over.
 pub fn items_of(w: usize, n: usize) -> bool
     ensures { result ≡ items_in w n }
 {
-    if w == 0 {
-        return false;
-    }
-    (n % w == 0) & ((1 <= n / w) & (n / w <= 12))
+    w != 0 && (n % w == 0) & ((1 <= n / w) & (n / w <= 12))
 }
 
 // Whether n is the number of an input or an output, 1 to 16.
@@ -30,38 +23,25 @@ pub fn is_number(n: u8) -> bool
     (1 <= n) & (n <= 16)
 }
 
-// Whether those bits of a byte are the number of an input or an output.
-fn has_number(bits: NumberBits, p: u8) -> bool
-    ensures { result ≡ has_number bits p }
+// Whether every byte is one.
+pub fn all_numbers(d: &[u8]) -> bool
+    ensures { result ≡ all is_number d.now }
 {
-    match bits {
-        NumberBits::Whole => is_number(p),
-        NumberBits::LowSix => is_number(p % 64),
-    }
+    d.iter().all(|p| is_number(*p))
 }
 
-// Whether those of every byte are one.
-pub fn all_numbers(bits: NumberBits, d: &[u8]) -> bool
-    ensures { result ≡ all (has_number bits) d.now }
+// Whether the low six bits of every byte are one, as a parameter of 60H has it.
+pub fn all_low_six(d: &[u8]) -> bool
+    ensures { result ≡ all low_six_number d.now }
 {
-    let mut i = 0;
-    while i < d.len() {
-        if !has_number(bits, d[i]) {
-            return false;
-        }
-        i += 1;
-    }
-    true
+    d.iter().all(|p| is_number(*p % 64))
 }
 
 // Whether the list is a single 00, which stands for all.
 pub fn is_all(d: &[u8]) -> bool
     ensures { result ≡ asks_all d.now }
 {
-    if d.len() == 1 {
-        return d[0] == 0;
-    }
-    false
+    d.len() == 1 && d[0] == 0
 }
 
 // The number at a place of all sixteen, or 0 past the end.
@@ -75,10 +55,7 @@ pub fn number_at(i: usize) -> u8
 pub fn listed_count(d: &[u8]) -> usize
     ensures { result ≡ length (listed d.now) }
 {
-    if is_all(d) {
-        return 16;
-    }
-    d.len()
+    if is_all(d) { 16 } else { d.len() }
 }
 
 // The number at a place of those, or 0 past the end.
@@ -86,30 +63,23 @@ pub fn listed_at(d: &[u8], i: usize) -> u8
     ensures { result ≡ get_or (listed d.now) i 0 }
 {
     if is_all(d) {
-        return number_at(i);
+        number_at(i)
+    } else {
+        encoding::at(d, i)
     }
-    encoding::at(d, i)
 }
 
 // Whether a list read names numbers only.
 pub fn all_listed(d: &[u8]) -> bool
     ensures { result ≡ all is_number (listed d.now) }
 {
-    if is_all(d) {
-        return true;
-    }
-    all_numbers(NumberBits::Whole, d)
+    is_all(d) || all_numbers(d)
 }
 
-// Why a list read is refused, or 0.
-pub fn list_refusal(d: &[u8]) -> u8
-    ensures { result ≡ list_refusal d.now }
+// Why a list read is refused.
+pub fn list_refusal(d: &[u8]) -> Result<(), Refusal>
+    ensures { refused_by result ≡ list_refusal d.now }
 {
-    if !items_of(1, d.len()) {
-        return 8;
-    }
-    if !all_listed(d) {
-        return 11;
-    }
-    0
+    encoding::refused_if(!items_of(1, d.len()), Refusal::DataLength)?;
+    encoding::refused_if(!all_listed(d), Refusal::Value)
 }

@@ -5,73 +5,59 @@ ghost use Rattle.std.specs.Prelude.{◌≡◌, []};
 ghost use Rattle.lists.specs.Data.{data_of};
 ghost use Rattle.model.specs.State.{with_counters, with_outputs, with_modes, with_sampling, with_presets, with_thermostats, with_notice, with_spinel, with_modbus};
 ghost use Rattle.model.specs.Refusals.{silent};
-ghost use Rattle.outcomes.specs.Parts.{handled_of, plain, told_about, settled};
+ghost use Rattle.model.specs.Numbers.{number_of};
+ghost use Rattle.encoding.specs.Answers.{told};
+ghost use Rattle.outcomes.specs.Parts.{outcome, told_about, handling, handled_of};
 
-use encoding::Told;
 use lists::Data;
-use model::{Module, Notice, Output, Port, Preset, Thermostat};
+use model::{Module, Notice, Output, Port, Preset, Refusal, Thermostat};
 
-// What an instruction or function comes to: the refusal's number or 0, the state after, and the reply's data.
+// What an accepted instruction or function comes to: the state after, and the reply's data. A refused one leaves the state.
 #[derive(Drop)]
 pub struct Served {
-    pub refusal: u8,
     pub after: Module,
     pub body: Data,
 }
 
-// What a frame or a sample comes to, whatever the lent buffer: the same, with the reply's bytes.
+impl Served {
+    // An answer without data.
+    pub fn without_data(after: Module) -> Served
+        ensures { result ≡ record { after = after; body = data_of [] } }
+    {
+        Served {
+            after,
+            body: encoding::empty(),
+        }
+    }
+}
+
+// What a frame or a sample comes to, whatever the lent buffer: what refuses it, the state after, and the reply's bytes.
 #[derive(Drop)]
 pub struct Handled {
-    pub refusal: u8,
+    pub refusal: Option<Refusal>,
     pub after: Module,
     pub reply: Data,
 }
 
-// An answer without data.
-pub fn bare(refusal: u8, after: Module) -> Served
-    ensures { result ≡ plain refusal after }
-{
-    Served {
-        refusal,
-        after,
-        body: encoding::empty(),
-    }
-}
-
 // An answer that only reads.
-pub fn told(m: Module, t: Told) -> Served
-    ensures { result ≡ told_about m t }
+pub fn told(m: Module, read: Result<Data, Refusal>) -> Result<Served, Refusal>
+    ensures { outcome m result ≡ told_about m (told read) }
 {
-    let body = t.reply;
-    Served {
-        refusal: t.refusal,
-        after: m,
-        body,
+    let body = read?;
+    Ok(Served { after: m, body })
+}
+
+// The state after a request: where it is refused, as it was before.
+pub fn after_of(m: Module, served: &Result<Served, Refusal>) -> Module
+    ensures { result ≡ (outcome m served.now).after }
+{
+    match served {
+        Ok(s) => s.after,
+        Err(_) => m,
     }
 }
 
-// An answer by the number that refuses it: refused, the module stays as it was; else this is the module after, with these data.
-pub fn settle_with(refusal: u8, m: Module, after: Module, body: Data) -> Served
-    ensures { result ≡ settled refusal m after body }
-{
-    if refusal != 0 {
-        return bare(refusal, m);
-    }
-    Served {
-        refusal: 0,
-        after,
-        body,
-    }
-}
-
-// The same without data.
-pub fn settle(refusal: u8, m: Module, after: Module) -> Served
-    ensures { result ≡ settled refusal m after (data_of []) }
-{
-    settle_with(refusal, m, after, encoding::empty())
-}
-
-// The module with one part put in place ---------------------------------------------------
+// The module with one part put in place: a function for each, since no parameter can name a field ------------
 
 // The module with these counters.
 pub fn with_counters(m: Module, counters: [u32; 16]) -> Module
@@ -167,12 +153,12 @@ pub fn with_modbus(m: Module, modbus: Port) -> Module
 }
 
 // A frame that fails 2 to 6: nothing changes, and there is no reply.
-pub fn unheard(refusal: u8, m: Module) -> Handled
-    ensures { result ≡ handled_of (silent refusal m) }
+pub fn unheard(refusal: Refusal, m: Module) -> Handled
+    ensures { handling result ≡ handled_of (silent (number_of refusal) m) }
 {
     let after = m;
     Handled {
-        refusal,
+        refusal: Some(refusal),
         after,
         reply: encoding::empty(),
     }

@@ -13,14 +13,14 @@ use model::{HalfSeconds, Output, Seconds};
 pub fn half_second_samples(t: HalfSeconds) -> u32
     ensures { result ≡ half_second_samples t }
 {
-    t.0 as u32 * 500
+    u32::from(t.0) * 500
 }
 
 // A time in seconds, 1,000 samples each.
 pub fn second_samples(t: Seconds) -> u32
     ensures { result ≡ second_samples t }
 {
-    t.0 as u32 * 1000
+    u32::from(t.0) * 1000
 }
 
 // An output that is set: that ends its pulse.
@@ -56,8 +56,7 @@ pub fn any_pulse(a: [Output; 16]) -> bool
     ensures { result ≡ any_pulse a }
 {
     let mut found = false;
-    for i in 0..16usize {
-        let o = a[i];
+    for o in a {
         found = found | (o.left != 0);
     }
     found
@@ -68,9 +67,8 @@ pub fn pulse_all(a: [Output; 16]) -> [Output; 16]
     ensures { result ≡ map pulsed a }
 {
     let mut next = a;
-    for i in 0..16usize {
-        let o = next[i];
-        next[i] = pulse(o);
+    for o in &mut next {
+        *o = pulse(*o);
     }
     next
 }

@@ -1,9 +1,9 @@
 -- From a call's answer to its text, and a line's samples one by one. Assumes nothing.
-use Prim.Native.Nat.{ℕ, zero, suc, ◌-◌, ◌<◌, ◌≤◌}
+use Prim.Native.Nat.{ℕ, suc, ◌≤◌}
 use native.Mathlib.Omega.{arith}
 use mathlib.Core.Path.{◌≡◌, ap}
 use mathlib.Core.List.{List, []}
-use lib.ListN.{length, take, replicate, length-append, length-take}
+use lib.ListN.{length, take, replicate, length-take}
 use lib.Seq.{take-append_seam, take_all}
 use borrow.Author.Tests.{eq-eqb, ne_eqb}
 use Rattle.model.specs.declared.Answer.{Answer}
@@ -11,17 +11,13 @@ use Rattle.model.specs.declared.Module.{Module}
 use Rattle.model.specs.Refusals.{Out}
 use Rattle.model.specs.Call.{call, sample}
 use Rattle.model.specs.Calls.{Answered, sample_call, step, run}
-use Rattle.texts.specs.declared.Text.{Text}
-use Rattle.texts.specs.Texts.{answer_text, text_of}
+use Rattle.texts.specs.Texts.{Text, answer_text, text_of}
 use Rattle.player.specs.Answers.{frame_text, notice_text, printed}
 use Rattle.player.specs.Scripts.{in_turn}
 
 module _ {o : Out} {a : Answer} {old new : List ℕ} (p : Answered o a old new) where
   length-reply : a.len ≡ length o.reply
   length-reply = ap (λ (x : Answer). x.len) p.answer
-
-  pub reply_fits : a.len ≤ length new
-  reply_fits = rw (length-reply, p.buffer) (simp length-append (omega arith))
 
   reply_shown : take a.len new ≡ o.reply
   reply_shown = rw (length-reply, p.buffer) (take-append_seam o.reply _)
@@ -40,17 +36,11 @@ module _ {o : Out} {a : Answer} {old new : List ℕ} (p : Answered o a old new) 
   notice_none h = rw (p.answer, eq-eqb (length o.reply) 0 (rw length-reply at h))
 
 -- one sample of several
-pub samples_go : (bits left : ℕ) (m : Module) {after : Module} → 0 < left → after ≡ (sample_call 256 bits m).after → run after (replicate (left - 1) (call 256 (sample bits))) ≡ run m (replicate left (call 256 (sample bits)))
+pub samples_go : (bits left : ℕ) (m : Module) {after : Module} → after ≡ (sample_call 256 bits m).after → run after (replicate left (call 256 (sample bits))) ≡ run m (replicate (suc left) (call 256 (sample bits)))
 unfolding run step
-samples_go bits zero m h e = absurd (let z : ⊥ = omega arith in z)
-samples_go bits (suc n) m {after} h e =
-    let less : suc n - 1 ≡ n = omega arith in
-    rw (less, e)
+samples_go bits left m e = rw e
 
 -- one turn of two samples
-pub turns_go : (a b left : ℕ) (m : Module) {half after : Module} → 0 < left → half ≡ (sample_call 256 a m).after → after ≡ (sample_call 256 b half).after → run after (in_turn a b (left - 1)) ≡ run m (in_turn a b left)
+pub turns_go : (a b left : ℕ) (m : Module) {half after : Module} → half ≡ (sample_call 256 a m).after → after ≡ (sample_call 256 b half).after → run after (in_turn a b left) ≡ run m (in_turn a b (suc left))
 unfolding run step in_turn
-turns_go a b zero m h e f = absurd (let z : ⊥ = omega arith in z)
-turns_go a b (suc n) m h e f =
-    let less : suc n - 1 ≡ n = omega arith in
-    rw (less, f, e)
+turns_go a b left m e f = rw (f, e)

@@ -1,91 +1,115 @@
 -- The lines of a script, one by one, and their calls. Assumes nothing.
-use Prim.Native.Nat.{ℕ, suc, ◌+◌, ◌-◌, ◌<◌, ◌≤◌}
+use Prim.Native.Nat.{ℕ, suc, ◌+◌, ◌≤◌}
 use native.Mathlib.Omega.{arith}
-use mathlib.Core.Path.{◌≡◌, refl, sym, ◌∙◌}
-use mathlib.Core.Bool.{Bool, true, false}
+use mathlib.Core.Path.{◌≡◌, refl, sym, ap, ◌∙◌}
+use mathlib.Core.Bool.{Bool, true, false, cond, not}
 use mathlib.Core.List.{List, [], ◌∷◌, ◌++◌, append_assoc, append-nil}
-use lib.Dec.{eqb}
-use lib.ListN.{length, take, drop, length-drop, drop_of_length-le}
-use lib.Seq.{drop-drop, take_all}
+use lib.Dec.{eqb, ltb}
+use lib.ListN.{length, take, drop}
+use borrow.Author.Tests.{ltb-true, ltb-false}
+use Rattle.std.specs.Prelude.{Option, Some, None}
+use Rattle.std.specs.List.{slice_split, onto_first, position_or_len}
+use Rattle.std.proofs.lemmas.Option.{cond_some}
+use Rattle.std.proofs.lemmas.List.Splits.{slice_split_first}
 use Rattle.model.specs.declared.Module.{Module}
 use Rattle.model.specs.Call.{Call}
 use Rattle.model.specs.Calls.{step, run}
 use Rattle.script.specs.Words.{leading, split, uncr, body}
-use Rattle.script.specs.Lines.{parsed_line, by_parts}
-use Rattle.script.proofs.Leading.{leading_le}
-use Rattle.lists.proofs.ChunkLaws.{rest_whole}
-use Rattle.player.specs.Scripts.{in_line, lines, line_calls, lines_calls}
+use Rattle.script.specs.Parsed.{Parsed}
+use Rattle.script.specs.Lines.{wrong, parsed_line, by_parts}
+use Rattle.script.specs.Results.{number_of}
+use Rattle.script.specs.declared.Reason.{Reason}
+use Rattle.player.specs.Scripts.{lines, line_calls, lines_calls}
 
 -- calls after calls
-pub run_append : (cs ds : List Call) (m : Module) → run m (cs ++ ds) ≡ run (run m cs) ds
+run_append : (cs ds : List Call) (m : Module) → run m (cs ++ ds) ≡ run (run m cs) ds
 unfolding run
 run_append [] ds m = refl
 run_append (c ∷ cs) ds m = run_append cs ds (step m c).after
 
--- a line that ends with a line feed, and the lines after it
-lines_first : (w l : List ℕ) → leading in_line l < length l → lines w l ≡ (w ++ take (leading in_line l) l) ∷ lines [] (drop (suc (leading in_line l)) l)
-unfolding lines leading
-lines_first w [] h = absurd (let z : ⊥ = omega arith in z)
-lines_first w (b ∷ l) h = go (eqb b 10) refl h (lines_first (w ++ b ∷ []) l)
+-- bytes before the first line
+onto : List ℕ → List (List ℕ) → List (List ℕ)
+onto w [] = w ∷ []
+onto w (l ∷ ls) = (w ++ l) ∷ ls
+
+onto_more : (w : List ℕ) (b : ℕ) (ls : List (List ℕ)) → onto (w ++ b ∷ []) ls ≡ onto w (onto_first b ls)
+unfolding onto
+onto_more w b [] = refl
+onto_more w b (l ∷ ls) = rw append_assoc
+
+onto_split : (l : List ℕ) → onto [] (slice_split (λ b. eqb b 10) l) ≡ slice_split (λ b. eqb b 10) l
+unfolding onto
+onto_split [] = refl
+onto_split (b ∷ l) = go (eqb b 10) (slice_split (λ b. eqb b 10) l)
+  where
+    go : (t : Bool) (ls : List (List ℕ)) → onto [] (cond t ([] ∷ ls) (onto_first b ls)) ≡ cond t ([] ∷ ls) (onto_first b ls)
+    go true ls = refl
+    go false [] = refl
+    go false (x ∷ ls) = refl
+
+-- the lines as `split` cuts them
+lines_onto : (w l : List ℕ) → lines w l ≡ onto w (slice_split (λ b. eqb b 10) l)
+unfolding lines onto
+lines_onto w [] = rw append-nil
+lines_onto w (b ∷ l) = go (eqb b 10) (lines_onto [] l) (lines_onto (w ++ b ∷ []) l)
+  where
+    parts : List (List ℕ)
+    parts = slice_split (λ b. eqb b 10) l
+
+    go : (t : Bool) → lines [] l ≡ onto [] parts → lines (w ++ b ∷ []) l ≡ onto (w ++ b ∷ []) parts → cond t (w ∷ lines [] l) (lines (w ++ b ∷ []) l) ≡ onto w (cond t ([] ∷ parts) (onto_first b parts))
+    go true e f = rw (append-nil w, e, onto_split l)
+    go false e f = f ∙ onto_more w b parts
+
+pub lines_split : (l : List ℕ) → lines [] l ≡ slice_split (λ b. eqb b 10) l
+lines_split l = lines_onto [] l ∙ onto_split l
+
+-- a script without a line feed is one line
+split_none : (l : List ℕ) → length l ≤ position_or_len (λ b. eqb b 10) l → slice_split (λ b. eqb b 10) l ≡ l ∷ []
+split_none [] h = refl
+split_none (b ∷ l) h = go (eqb b 10) h (split_none l)
   where
     go : (t : Bool)
-        → eqb b 10 ≡ t
-        → leading in_line (b ∷ l) < suc (length l)
-        → (leading in_line l < length l → lines (w ++ b ∷ []) l ≡ ((w ++ b ∷ []) ++ take (leading in_line l) l) ∷ lines [] (drop (suc (leading in_line l)) l))
-        → lines w (b ∷ l) ≡ (w ++ take (leading in_line (b ∷ l)) (b ∷ l)) ∷ lines [] (drop (suc (leading in_line (b ∷ l))) (b ∷ l))
-    go true e k f = rw (e, append-nil w)
-    go false e k f =
-        let less : suc (leading in_line l) < suc (length l) = rw e at k in
-        rw (e, f (omega arith), append_assoc w (b ∷ []) (take (leading in_line l) l))
+        → suc (length l) ≤ cond (not t) (1 + position_or_len (λ b. eqb b 10) l) 0
+        → (length l ≤ position_or_len (λ b. eqb b 10) l → slice_split (λ b. eqb b 10) l ≡ l ∷ [])
+        → cond t ([] ∷ slice_split (λ b. eqb b 10) l) (onto_first b (slice_split (λ b. eqb b 10) l)) ≡ (b ∷ l) ∷ []
+    go true h f = absurd (let z : ⊥ = omega arith in z)
+    go false h f = rw (f (omega arith))
 
--- a last line without one
-lines_last : (w l : List ℕ) → leading in_line l ≡ length l → lines w l ≡ (w ++ l) ∷ []
-unfolding lines leading
-lines_last w [] h = rw append-nil
-lines_last w (b ∷ l) h = go (eqb b 10) refl h (lines_last (w ++ b ∷ []) l)
+-- an empty line has no calls
+no_calls : lines_calls (lines [] []) ≡ []
+unfolding lines lines_calls line_calls parsed_line by_parts body uncr leading split
+no_calls = refl
+
+none_past : (l n : ℕ) → cond (ltb l n) (Some l) None ≡ None → n ≤ l
+none_past l n = go (ltb l n) refl
   where
-    go : (t : Bool)
-        → eqb b 10 ≡ t
-        → leading in_line (b ∷ l) ≡ suc (length l)
-        → (leading in_line l ≡ length l → lines (w ++ b ∷ []) l ≡ ((w ++ b ∷ []) ++ l) ∷ [])
-        → lines w (b ∷ l) ≡ (w ++ b ∷ l) ∷ []
-    go true e k f =
-        let none : 0 ≡ suc (length l) = rw e at k in
-        absurd (let z : ⊥ = omega arith in z)
-    go false e k f =
-        let all : suc (leading in_line l) ≡ suc (length l) = rw e at k in
-        rw (e, f (omega arith), append_assoc w (b ∷ []) l)
+    go : (t : Bool) → ltb l n ≡ t → ◌≡◌ {A = Option ℕ} (cond t (Some l) None) None → n ≤ l
+    go true h e = absurd (let z : ⊥ = cc in z)
+    go false h e = ltb-false l n h
 
--- a line ends inside the script
-pub line_fits : (s : List ℕ) (at n : ℕ) → n ≡ leading in_line (take (length s - at) (drop at s)) → at ≤ length s → at + n ≤ length s
-line_fits s at n p h =
-    let here : n ≡ leading in_line (drop at s) = rw (rest_whole at s) at p in
-    let short : leading in_line (drop at s) ≤ length s - at = rw (length-drop at s) at (leading_le in_line (drop at s)) in
-    omega arith
+-- the calls of a script, by the place of its first line feed
+module _ (s : List ℕ) (r : Option ℕ) (e : r ≡ cond (ltb (position_or_len (λ b. eqb b 10) s) (length s)) (Some (position_or_len (λ b. eqb b 10) s)) None) where
+  pub first_found : {n : ℕ} → r ≡ Some n → lines_calls (lines [] s) ≡ line_calls (parsed_line (take n s)) ++ lines_calls (lines [] (drop (n + 1) s))
+  unfolding lines_calls
+  first_found {n} f =
+      let found = cond_some _ _ _ (sym e ∙ f) in
+      let here : slice_split (λ b. eqb b 10) s ≡ take n s ∷ slice_split (λ b. eqb b 10) (drop (n + 1) s) = rw found.1 at (slice_split_first (λ b. eqb b 10) s 0 (ltb-true _ _ found.0)) in
+      rw (lines_split s, here, lines_split (drop (n + 1) s))
 
--- one turn of the loop over a script's lines, and its two ends
-module _ (m : Module) (s : List ℕ) (at : ℕ) where
-  pub lines_over : length s ≤ at → m ≡ run m (lines_calls (lines [] (drop at s)))
-  unfolding lines lines_calls line_calls parsed_line by_parts body uncr leading split run
-  lines_over h = rw (drop_of_length-le s {i = at} h)
+  pub first_none : r ≡ None → lines_calls (lines [] s) ≡ line_calls (parsed_line s) ++ lines_calls (lines [] [])
+  unfolding lines_calls
+  first_none f = rw (lines_split s, split_none s (none_past _ _ (sym e ∙ f))) (ap (λ cs. line_calls (parsed_line s) ++ cs) (sym no_calls))
 
-  module _ (n : ℕ) (after : Module) (p : n ≡ leading in_line (take (length s - at) (drop at s))) (q : after ≡ run m (line_calls (parsed_line (take (at + n - at) (drop at s))))) where
-    here : n ≡ leading in_line (drop at s)
-    here = rw (rest_whole at s) at p
+-- one turn of the loop over a script's lines
+pub line_goes : (m : Module) (s l rest : List ℕ) {after : Module} → lines_calls (lines [] s) ≡ line_calls (parsed_line l) ++ lines_calls (lines [] rest) → after ≡ run m (line_calls (parsed_line l)) → run after (lines_calls (lines [] rest)) ≡ run m (lines_calls (lines [] s))
+line_goes m s l rest e q = rw (q, e) (sym (run_append _ _ m))
 
-    same : at + n - at ≡ leading in_line (drop at s)
-    same = omega (arith, here)
+pub lines_over : (m : Module) (s : List ℕ) → length s ≡ 0 → m ≡ run m (lines_calls (lines [] s))
+unfolding run
+lines_over m [] h = rw no_calls
+lines_over m (b ∷ s) h = absurd (let z : ⊥ = omega arith in z)
 
-    pub line_goes : at + n < length s → run after (lines_calls (lines [] (drop (at + n + 1) s))) ≡ run m (lines_calls (lines [] (drop at s)))
-    unfolding lines_calls
-    line_goes h =
-        let less : leading in_line (drop at s) < length (drop at s) = simp length-drop (omega (arith, here)) in
-        let far : at + suc (leading in_line (drop at s)) ≡ at + n + 1 = omega (arith, here) in
-        let rest : drop (at + n + 1) s ≡ drop (suc (leading in_line (drop at s))) (drop at s) = sym (drop-drop (suc (leading in_line (drop at s))) at s ∙ rw far) in
-        rw (q, same, rest, lines_first [] (drop at s) less) (sym (run_append _ _ m))
-
-    pub line_last : at + n ≡ length s → at ≤ length s → after ≡ run m (lines_calls (lines [] (drop at s)))
-    unfolding lines_calls
-    line_last h k =
-        let all : leading in_line (drop at s) ≡ length (drop at s) = simp length-drop (omega (arith, here)) in
-        rw (q, same, lines_last [] (drop at s) all, append-nil, take_all (leading in_line (drop at s)) (drop at s) (omega arith))
+-- a wrong line has no calls
+pub wrong_calls : (m : Module) (r : Reason) {p : Parsed} → wrong (number_of r) ≡ p → m ≡ run m (line_calls p)
+unfolding line_calls run
+wrong_calls m r e = rw (sym e)

@@ -1,20 +1,18 @@
 -- A script as calls.
-use Rattle.std.specs.Prelude.{ℕ, zero, suc, Bool, true, false, cond, List, [], ◌∷◌, ◌++◌, eqb, pos, take, replicate}
+use Rattle.std.specs.Prelude.{ℕ, zero, suc, true, false, cond, List, [], ◌∷◌, ◌++◌, eqb, pos, take, replicate}
 use Rattle.model.specs.Call.{Call, call, sample, temperature, spinel, modbus}
 use Rattle.model.specs.declared.Module.{Module}
 use Rattle.model.specs.Refusals.{Out}
 use Rattle.model.specs.Calls.{spinel_call, modbus_call}
-use Rattle.script.specs.declared.Parsed.{Parsed}
-use Rattle.script.specs.Words.{other}
+use Rattle.script.specs.Parsed.{Parsed}
 use Rattle.script.specs.Lines.{parsed_line}
-
--- any byte but a line feed
-abbrev pub in_line : ℕ → Bool
-in_line b = other 10 b
+use Rattle.player.specs.declared.Port.{Port}
+use Rattle.player.specs.declared.Port.TheVariants.{Spinel, Modbus}
 
 -- a frame on the port that it came to
-unfoldable pub frame_call : Bool → ℕ → List ℕ → Module → Out
-frame_call over_modbus room f m = cond over_modbus (modbus_call room f m) (spinel_call room f m)
+abbrev pub frame_call : Port → ℕ → List ℕ → Module → Out
+frame_call Spinel room f m = spinel_call room f m
+frame_call Modbus room f m = modbus_call room f m
 
 -- the lines of a script, where w is the start of one; behind a last line feed stands an empty line
 unfoldable pub lines : List ℕ → List ℕ → List (List ℕ)

@@ -1,17 +1,17 @@
 // Plays a script of calls on a fresh module and prints each answer.
 #![tactic(auto)]
 
-ghost use Rattle.std.specs.Prelude.{◌≡◌, ◌≤◌, length, replicate};
+ghost use Rattle.std.specs.Prelude.{◌≡◌, ◌<◌, ◌≤◌, [], ◌++◌, length, replicate, take};
 ghost use Rattle.model.specs.State.{fresh_module};
 ghost use Rattle.model.specs.Call.{call, sample};
 ghost use Rattle.model.specs.Calls.{sample_call, temperature_call, Answered, run};
-ghost use Rattle.script.specs.Words.{leading};
 ghost use Rattle.script.specs.Lines.{parsed_line};
+ghost use Rattle.script.specs.Results.{line_parsed};
 ghost use Rattle.player.specs.Answers.{frame_text, notice_text, printed};
-ghost use Rattle.player.specs.Scripts.{in_line, frame_call, in_turn, line_calls, script_calls};
+ghost use Rattle.player.specs.Scripts.{frame_call, in_turn, line_calls, lines, lines_calls, script_calls};
 
 use model::{Answer, Module};
-use script::Parsed;
+use script::{Frame, Line};
 use std::io::Read;
 use texts::Text;
 
@@ -22,60 +22,63 @@ struct Printed {
     text: Text,
 }
 
-// Where the line that `s` starts with ends: the place of the first line feed, or the end.
-fn line_end(s: &[u8]) -> usize
-    ensures { result ≡ leading in_line s.now }
-{
-    script::stop_at(s, 10)
-}
-
 // One sample, and the line of its notice.
 fn sample_text(m: Module, bits: u16) -> Printed
     ensures { result ≡ printed (sample_call 256 bits m) (notice_text (sample_call 256 bits m)) }
 {
     let mut reply = [0u8; 256];
     let a = iomodule::sample(m, bits, &mut reply);
-    let len = a.len;
-    let after = a.after;
-    if len == 0 {
+    if a.len == 0 {
         let none = Text {
-            bytes: [0u8; 772],
+            items: [0; 772],
             len: 0,
         };
-        return Printed { after, text: none };
+        return Printed {
+            after: a.after,
+            text: none,
+        };
     }
-    let text = texts::answer_text(a.refusal, &reply[..len]);
-    Printed { after, text }
+    let text = texts::answer_text(a.refusal, &reply[..a.len]);
+    Printed {
+        after: a.after,
+        text,
+    }
+}
+
+// The port that a frame comes to.
+#[derive(Clone, Copy)]
+enum Port {
+    Spinel,
+    Modbus,
 }
 
 // One frame on either port.
-fn frame_call(m: Module, modbus: bool, frame: &[u8], reply: &mut [u8]) -> Answer
-    ensures { Answered (frame_call modbus (length reply.old) frame.now m) result reply.old reply.new }
+fn frame_call(m: Module, port: Port, frame: &[u8], reply: &mut [u8]) -> Answer
+    ensures { Answered (frame_call port (length reply.old) frame.now m) result reply.old reply.new }
 {
-    if modbus {
-        return iomodule::modbus(m, frame, reply);
+    match port {
+        Port::Spinel => iomodule::spinel(m, frame, reply),
+        Port::Modbus => iomodule::modbus(m, frame, reply),
     }
-    iomodule::spinel(m, frame, reply)
 }
 
 // One frame, and the line of its answer.
-fn frame_text(m: Module, modbus: bool, frame: &[u8]) -> Printed
-    ensures { result ≡ printed (frame_call modbus 256 frame.now m) (frame_text (frame_call modbus 256 frame.now m)) }
+fn frame_text(m: Module, port: Port, frame: &[u8]) -> Printed
+    ensures { result ≡ printed (frame_call port 256 frame.now m) (frame_text (frame_call port 256 frame.now m)) }
 {
     let mut reply = [0u8; 256];
-    let a = frame_call(m, modbus, frame, &mut reply);
-    let len = a.len;
-    let after = a.after;
-    let text = texts::answer_text(a.refusal, &reply[..len]);
-    Printed { after, text }
+    let a = frame_call(m, port, frame, &mut reply);
+    let text = texts::answer_text(a.refusal, &reply[..a.len]);
+    Printed {
+        after: a.after,
+        text,
+    }
 }
 
 // What is printed has no contract: std's write_all promises nothing of it, and a write that fails is passed over.
 // The text that it is given has one.
 fn print_text(rt: &impl Print, text: Text) {
-    let n = texts::at_most(text.len, 772);
-    let bytes = text.bytes;
-    let _ = rt.write_all(&bytes[..n]);
+    let _ = rt.write_all(text.as_slice());
 }
 
 // One sample, its notice printed.
@@ -83,8 +86,7 @@ fn play_sample(rt: &impl Print, m: Module, bits: u16) -> Module
     ensures { result ≡ (sample_call 256 bits m).after }
 {
     let p = sample_text(m, bits);
-    let text = p.text;
-    print_text(rt, text);
+    print_text(rt, p.text);
     p.after
 }
 
@@ -92,124 +94,100 @@ fn play_sample(rt: &impl Print, m: Module, bits: u16) -> Module
 fn play_samples(rt: &impl Print, m: Module, bits: u16, times: u16) -> Module
     ensures { result ≡ run m (replicate times (call 256 (sample bits))) }
 {
-    let mut q = m;
-    let mut left = times;
-    while 0 < left {
-        let after = play_sample(rt, q, bits);
-        q = after;
-        left -= 1;
+    let mut after = m;
+    for _turn in 0..times {
+        after = play_sample(rt, after, bits);
     }
-    q
+    after
 }
 
 // Two samples in turn, some times.
 fn play_toggles(rt: &impl Print, m: Module, bits: u16, second: u16, times: u16) -> Module
     ensures { result ≡ run m (in_turn bits second times) }
 {
-    let mut q = m;
-    let mut left = times;
-    while 0 < left {
-        let half = play_sample(rt, q, bits);
-        let after = play_sample(rt, half, second);
-        q = after;
-        left -= 1;
+    let mut after = m;
+    for _turn in 0..times {
+        let half = play_sample(rt, after, bits);
+        after = play_sample(rt, half, second);
     }
-    q
+    after
 }
 
 // A temperature prints nothing.
 fn play_temperature(m: Module, good: bool, tenths: i16) -> Module
     ensures { result ≡ (temperature_call 256 good tenths m).after }
 {
-    let a = iomodule::temperature(m, good, tenths);
-    a.after
+    iomodule::temperature(m, good, tenths).after
 }
 
 // A frame, its answer printed.
-fn play_frame(rt: &impl Print, m: Module, modbus: bool, frame: &[u8]) -> Module
-    ensures { result ≡ (frame_call modbus 256 frame.now m).after }
+fn play_frame(rt: &impl Print, m: Module, port: Port, frame: Frame) -> Module
+    ensures { result ≡ (frame_call port 256 (take frame.len frame.items) m).after }
 {
-    let p = frame_text(m, modbus, frame);
-    let text = p.text;
-    print_text(rt, text);
+    let p = frame_text(m, port, frame.as_slice());
+    print_text(rt, p.text);
     p.after
 }
 
 // The calls of a line.
-fn play_calls(rt: &impl Print, m: Module, x: Parsed) -> Module
-    ensures { result ≡ run m (line_calls x) }
+#[tactic(auto, unfolding(crate::specs::Scripts::line_calls, model::specs::Calls::run, model::specs::Calls::step))]
+fn play_calls(rt: &impl Print, m: Module, line: Line) -> Module
+    ensures { result ≡ run m (line_calls (line_parsed line)) }
 {
-    let kind = x.kind;
-    let frame = x.frame;
-    let n = texts::at_most(x.len, 300);
-    match kind {
-        1 => play_samples(rt, m, x.bits, x.times),
-        7 => play_toggles(rt, m, x.bits, x.second, x.times),
-        2 => play_temperature(m, true, x.tenths),
-        3 => play_temperature(m, false, 0),
-        4 => play_frame(rt, m, false, &frame[..n]),
-        5 => play_frame(rt, m, true, &frame[..n]),
-        _ => m,
+    match line {
+        Line::Empty => m,
+        Line::Samples { bits, times } => play_samples(rt, m, bits, times),
+        Line::Toggles {
+            first,
+            second,
+            times,
+        } => play_toggles(rt, m, first, second, times),
+        Line::Temperature(tenths) => play_temperature(m, true, tenths),
+        Line::Fault => play_temperature(m, false, 0),
+        Line::Spinel(frame) => play_frame(rt, m, Port::Spinel, frame),
+        Line::Modbus(frame) => play_frame(rt, m, Port::Modbus, frame),
     }
 }
 
-// What is wrong with a line, by the reason that `script::parse` gives.
-fn print_reason(rt: &impl Print, reason: u8) {
-    let _ = match reason {
-        1 => rt.write_all(
-            b"unknown word: expected sample, toggle, temperature, spinel or modbus\n",
-        ),
-        2 => rt.write_all(
-            b"bad hex: expected four hex digits after sample, twice four after toggle, two hex digits for each byte of a frame\n",
-        ),
-        3 => rt.write_all(
-            b"bad number: expected 1 to 65535 samples or toggles, a temperature of -32768 to 32767 tenths, or fault\n",
-        ),
-        4 => rt.write_all(
-            b"too many words: expected sample HHHH, sample HHHH N, toggle HHHH HHHH N, temperature T or temperature fault\n",
-        ),
-        5 => rt.write_all(b"frame too long: expected at most 300 bytes\n"),
-        _ => rt.write_all(
-            b"missing word: expected sample HHHH, sample HHHH N, toggle HHHH HHHH N, temperature T or temperature fault\n",
-        ),
-    };
-}
-
-// Prints the number of a wrong line and what is wrong.
-fn print_wrong(rt: &impl Print, number: u64, kind: u8, reason: u8) {
-    if kind == 6 {
-        let _ = print!(rt; "line {number}: ");
-        print_reason(rt, reason);
-    }
-}
-
-// One line of a script.
+// One line of a script. Of a wrong one its number and what is wrong are printed.
 fn play_line(rt: &impl Print, m: Module, number: u64, line: &[u8]) -> Module
     ensures { result ≡ run m (line_calls (parsed_line line.now)) }
 {
-    let x = script::parse(line);
-    print_wrong(rt, number, x.kind, x.reason);
-    play_calls(rt, m, x)
+    match script::parse(line) {
+        Ok(line) => play_calls(rt, m, line),
+        Err(reason) => {
+            let _ = println!(rt; "line {number}: {reason}");
+            m
+        }
+    }
+}
+
+// The first line, and what stands behind its line feed.
+fn first_line(s: &[u8]) -> (&[u8], &[u8])
+    ensures calls { lines_calls (lines [] s.now) ≡ line_calls (parsed_line result.0.now) ++ lines_calls (lines [] result.1.now) }
+    ensures shorter { 0 < length s.now → length result.1.now < length s.now }
+{
+    match s.iter().position(|b| *b == b'\n') {
+        Some(end) => (&s[..end], &s[end + 1..]),
+        None => (s, &[]),
+    }
 }
 
 // Plays all lines of a script on a fresh module, and returns the module after them.
 pub fn play(rt: &impl Print, input: &[u8]) -> Module
     ensures { result ≡ run fresh_module (script_calls input.now) }
 {
-    let mut m = iomodule::fresh();
+    let mut after = iomodule::fresh();
     let mut number: u64 = 0;
-    let mut at = 0;
-    while at < input.len() {
-        number += 1;
-        let end = at + line_end(&input[at..]);
-        let after = play_line(rt, m, number, &input[at..end]);
-        m = after;
-        if end == input.len() {
-            return m;
-        }
-        at = end + 1;
+    // A `for` over `input.split(..)` gets no proof beside `rt`.
+    let mut rest = input;
+    while !rest.is_empty() {
+        let (line, behind) = first_line(rest);
+        number = number.saturating_add(1);
+        after = play_line(rt, after, number, line);
+        rest = behind;
     }
-    m
+    after
 }
 
 // Reads until the buffer is full, the input ends or a read fails, and returns how many bytes were read.
@@ -218,6 +196,7 @@ fn read_full(rt: &impl Input, buf: &mut [u8]) -> usize
 {
     let mut reader = rt.reader();
     let mut done = 0;
+    // A `while`: a read may give fewer bytes than were asked for, so no count of reads is known before.
     while done < buf.len() {
         let n = reader.read(&mut buf[done..]).unwrap_or(0);
         if n == 0 {

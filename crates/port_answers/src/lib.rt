@@ -1,80 +1,45 @@
-// What stands around a served request, on either port: the permission that it uses up, and the reply.
+// The replies of both ports: what is told of a request, framed as its port frames it.
 #![tactic(auto)]
 
 ghost use Rattle.std.specs.Prelude.{◌≡◌};
-ghost use Rattle.model.specs.Wire.{used_up};
+ghost use Rattle.lists.specs.Data.{data_of};
+ghost use Rattle.model.specs.declared.Module.{Module as ModuleOf};
 ghost use Rattle.model.specs.Spinel.{spinel_wire};
 ghost use Rattle.model.specs.Modbus.{modbus_wire};
-ghost use Rattle.port_answers.specs.Answers.{spinel_answered, modbus_answered};
+ghost use Rattle.encoding.specs.Answers.{told};
+ghost use Rattle.wires.specs.Answers.{done_of};
 
-use model::Module;
-use outcomes::{Handled, Served};
+use lists::Data;
+use model::Refusal;
 
-// A request that passes 1 to 6 uses its port's permission up: Spinel's.
-pub fn spinel_use_up(m: Module) -> Module
-    ensures { result ≡ used_up spinel_wire m }
+// The Spinel reply: its ACK tells a refusal, and it bears the module's own address, whatever the frame's.
+#[tactic(auto, unfolding(replies::specs::Replies::spinel_replied))]
+pub fn reply_on_spinel(own: u8, frame: &[u8], answer: Result<Data, Refusal>) -> Data
+    ensures { (m : ModuleOf) → result ≡ data_of (spinel_wire.replied own frame.now (done_of 247 m (told answer))) }
 {
-    let spinel = port_effects::permitted(m.spinel, false);
-    let mut next = m;
-    next.spinel = spinel;
-    next
-}
-
-// And Modbus's.
-pub fn modbus_use_up(m: Module) -> Module
-    ensures { result ≡ used_up modbus_wire m }
-{
-    let modbus = port_effects::permitted(m.modbus, false);
-    let mut next = m;
-    next.modbus = modbus;
-    next
-}
-
-// The Spinel reply: none to a broadcast.
-pub fn spinel_answer(own: u8, to: u8, signature: u8, s: Served) -> Handled
-    ensures { result ≡ spinel_answered own to signature s }
-{
-    let refusal = s.refusal;
-    let after = s.after;
-    if to == 0xFF {
-        return Handled {
-            refusal,
-            after,
-            reply: encoding::empty(),
-        };
-    }
-    let body = s.body;
-    Handled {
-        refusal,
-        after,
-        reply: replies::spinel_reply(own, signature, replies::ack_of(refusal), body),
+    let signature = encoding::at(frame, 5);
+    match answer {
+        Ok(body) => replies::spinel_reply(own, signature, replies::ack_of(0), body),
+        Err(refusal) => replies::spinel_reply(
+            own,
+            signature,
+            replies::ack_of(refusal.number()),
+            encoding::empty(),
+        ),
     }
 }
 
-// The Modbus reply, or the exception: none to a broadcast.
-pub fn modbus_answer(own: u8, to: u8, function: u8, s: Served) -> Handled
-    ensures { result ≡ modbus_answered own to function s }
+// The Modbus reply, or the exception that tells a refusal.
+#[tactic(auto, unfolding(replies::specs::Replies::modbus_replied))]
+pub fn reply_on_modbus(own: u8, frame: &[u8], answer: Result<Data, Refusal>) -> Data
+    ensures { (m : ModuleOf) → result ≡ data_of (modbus_wire.replied own frame.now (done_of 252 m (told answer))) }
 {
-    let refusal = s.refusal;
-    let after = s.after;
-    if to == 0 {
-        return Handled {
-            refusal,
-            after,
-            reply: encoding::empty(),
-        };
-    }
-    if refusal != 0 {
-        return Handled {
-            refusal,
-            after,
-            reply: replies::exception_reply(own, function, replies::exception_of(refusal)),
-        };
-    }
-    let body = s.body;
-    Handled {
-        refusal,
-        after,
-        reply: replies::modbus_reply(own, function, body),
+    let function = encoding::at(frame, 1);
+    match answer {
+        Ok(body) => replies::modbus_reply(own, function, body),
+        Err(refusal) => {
+            let code = replies::exception_of(refusal.number());
+            replies::exception_reply(own, function, code)
+        }
     }
 }

@@ -6,34 +6,33 @@ ghost use Rattle.model.specs.State.{with_modbus};
 ghost use Rattle.model.specs.Refusals.{on_part, judged};
 ghost use Rattle.model.specs.Registers.{write_permission, write_port};
 ghost use Rattle.model.specs.Modbus.{words};
-ghost use Rattle.outcomes.specs.Parts.{served_of};
+ghost use Rattle.outcomes.specs.Parts.{outcome, served_of};
 
-use model::Module;
+use model::{Module, Refusal};
 use outcomes::Served;
 
 // Register 0
-pub fn write_permission(m: Module, single: bool, a: u16, d: &[u8]) -> Served
-    ensures { result ≡ served_of (judged m (on_part (with_modbus m) (write_permission single a (words d.now) m.modbus))) }
+pub fn write_permission(m: Module, single: bool, a: u16, d: &[u8]) -> Result<Served, Refusal>
+    ensures { outcome m result ≡ served_of (judged m (on_part (with_modbus m) (write_permission single a (words d.now) m.modbus))) }
 {
-    let unfit = encoding::refused_if(decoders::value_at(d, 0) != 0x00FF, 11, 0);
     let wrong = groups::is_outside(groups::PERMISSION, a, d.len() / 2) | !single;
-    let refusal = encoding::refused_if(wrong, 9, unfit);
+    encoding::refused_if(wrong, Refusal::Range)?;
+    encoding::refused_if(decoders::value_at(d, 0) != 0x00FF, Refusal::Value)?;
     let port = port_effects::permitted(m.modbus, true);
-    outcomes::settle(refusal, m, outcomes::with_modbus(m, port))
+    Ok(Served::without_data(outcomes::with_modbus(m, port)))
 }
 
 // Registers 1 to 2: address and speed, then the reset.
-pub fn write_port(m: Module, permitted: bool, a: u16, d: &[u8]) -> Served
-    ensures { result ≡ served_of (judged m (write_port permitted a (words d.now) m)) }
+pub fn write_port(m: Module, permitted: bool, a: u16, d: &[u8]) -> Result<Served, Refusal>
+    ensures { outcome m result ≡ served_of (judged m (write_port permitted a (words d.now) m)) }
 {
-    let es = decoders::registers(groups::PORT, a, d);
-    let closed = encoding::refused_if(!permitted, 10, port_effects::fields_refusal(es));
-    let wrong = groups::is_outside(groups::PORT, a, d.len() / 2);
-    let refusal = encoding::refused_if(wrong, 9, closed);
+    let outside = groups::is_outside(groups::PORT, a, d.len() / 2);
+    encoding::refused_if(outside, Refusal::Range)?;
+    encoding::refused_if(!permitted, Refusal::Permission)?;
+    let decoded = decoders::registers(groups::PORT, a, d);
+    let es = decoded.as_slice();
+    port_effects::fields_refusal(es)?;
     let port = port_effects::set_fields(m.modbus, es);
-    outcomes::settle(
-        refusal,
-        m,
-        startup::reset_state(outcomes::with_modbus(m, port)),
-    )
+    let set = outcomes::with_modbus(m, port);
+    Ok(Served::without_data(startup::reset_state(set)))
 }

@@ -8,7 +8,7 @@ use lib.ListN.{length, set, take, drop, replicate, length-append}
 use lib.Seq.{paste, take_at, drop-append-add, length-take-le, take_all}
 use Rattle.lists.specs.Data.{padded, data_of, bytes_in}
 use Rattle.lists.specs.Numbers.{bytes}
-use Rattle.lists.specs.declared.Data.{Data}
+use Rattle.lists.specs.Data.{Data}
 use Rattle.lists.proofs.DataLaws.{padded_push, bytes_in_lem}
 use Rattle.model.specs.Frames.{sum_of, closed, spinel_reply, crc_of, with_crc, modbus_reply}
 use Rattle.replies.specs.Replies.{spinel_head, modbus_head, spinel_replied, modbus_replied}
@@ -17,7 +17,7 @@ use Rattle.lists.proofs.Parts.{cut_law, drop_zeros}
 -- Arrays ---------------------------------------------------------------------------------
 
 -- two stores behind the last byte that counts
-two_law : (l : List ℕ) (k a b : ℕ) → length l ≡ k → k ≤ 254 → record { bytes = set (set (padded l) k a) (k + 1) b; len = k + 2 } ≡ data_of (l ++ a ∷ b ∷ [])
+two_law : (l : List ℕ) (k a b : ℕ) → length l ≡ k → k ≤ 254 → record { items = set (set (padded l) k a) (k + 1) b; len = k + 2 } ≡ data_of (l ++ a ∷ b ∷ [])
 two_law l k a b e h =
     let more : length (l ++ a ∷ []) ≡ k + 1 = length-append l (a ∷ []) ∙ ap (◌+ 1) e in
     let all : l ++ a ∷ b ∷ [] ≡ (l ++ a ∷ []) ++ b ∷ [] = sym (append_assoc l (a ∷ []) (b ∷ [])) in
@@ -42,7 +42,7 @@ module _ (head xs : List ℕ) (k n : ℕ) (e : length head ≡ k) (has : n ≤ l
       rw (take_at head (replicate (256 - length head) 0) k e, rest)
 
   framed_law : (a b : List ℕ → ℕ)
-      → record { bytes = set (set (paste (padded head) k xs n) (k + n) (a (take (k + n) (paste (padded head) k xs n)))) (k + n + 1) (b (take (k + n) (paste (padded head) k xs n))); len = k + n + 2 }
+      → record { items = set (set (paste (padded head) k xs n) (k + n) (a (take (k + n) (paste (padded head) k xs n)))) (k + n + 1) (b (take (k + n) (paste (padded head) k xs n))); len = k + n + 2 }
       ≡ data_of ((head ++ take n xs) ++ a (head ++ take n xs) ∷ b (head ++ take n xs) ∷ [])
   framed_law a b =
       let shown : take (k + n) (padded (head ++ take n xs)) ≡ head ++ take n xs = rw all_long at (bytes_in_lem (head ++ take n xs)) in
@@ -51,37 +51,37 @@ module _ (head xs : List ℕ) (k n : ℕ) (e : length head ≡ k) (has : n ≤ l
 -- Replies --------------------------------------------------------------------------------
 
 -- the first bytes that data hold
-module _ (d : Data) (n most : ℕ) (full : length d.bytes ≡ 256) (e : n ≡ min d.len most) where
-  some_law : take n d.bytes ≡ take most (bytes_in d)
-  some_law = rw e (sym (cut_law d.len most d.bytes))
+module _ (d : Data) (n most : ℕ) (full : length d.items ≡ 256) (e : n ≡ min d.len most) where
+  some_law : take n d.items ≡ take most (bytes_in d)
+  some_law = rw e (sym (cut_law d.len most d.items))
 
   some_most : n ≤ most
   some_most = omega (arith, min-le_right d.len most)
 
-  some_long : most ≤ 256 → length (take n d.bytes) ≡ n
-  some_long h = length-take-le n d.bytes (omega (arith, some_most))
+  some_long : most ≤ 256 → length (take n d.items) ≡ n
+  some_long h = length-take-le n d.items (omega (arith, some_most))
 
-pub spinel_stored : (address signature ack n : ℕ) (d : Data) → length d.bytes ≡ 256 → n ≡ min d.len 247
-    → (b : List ℕ) → b ≡ paste (padded (spinel_head (n + 5) address signature ack)) 7 d.bytes n
-    → record { bytes = set (set b (7 + n) (sum_of (take (7 + n) b))) (7 + n + 1) 0x0D; len = 7 + n + 2 } ≡ spinel_replied address signature ack d
+pub spinel_stored : (address signature ack n : ℕ) (d : Data) → length d.items ≡ 256 → n ≡ min d.len 247
+    → (b : List ℕ) → b ≡ paste (padded (spinel_head (n + 5) address signature ack)) 7 d.items n
+    → record { items = set (set b (7 + n) (sum_of (take (7 + n) b))) (7 + n + 1) 0x0D; len = 7 + n + 2 } ≡ spinel_replied address signature ack d
 unfolding spinel_replied spinel_reply spinel_head bytes
 spinel_stored address signature ack n d full e b q =
     let most = some_most d n 247 full e in
-    let l = take n d.bytes in
+    let l = take n d.items in
     let head : ℕ → List ℕ = λ k. spinel_head (k + 5) address signature ack in
-    ap (λ (x : List ℕ). record { bytes = set (set x (7 + n) (sum_of (take (7 + n) x))) (7 + n + 1) 0x0D; len = 7 + n + 2 }) q
-    ∙ framed_law (head n) d.bytes 7 n refl (omega arith) (omega arith) sum_of (λ _. 0x0D)
+    ap (λ (x : List ℕ). record { items = set (set x (7 + n) (sum_of (take (7 + n) x))) (7 + n + 1) 0x0D; len = 7 + n + 2 }) q
+    ∙ framed_law (head n) d.items 7 n refl (omega arith) (omega arith) sum_of (λ _. 0x0D)
     ∙ ap (λ (k : ℕ). data_of (closed (head k ++ l))) (sym (some_long d n 247 full e (omega arith)))
     ∙ ap (λ (x : List ℕ). data_of (spinel_reply address signature ack x)) (some_law d n 247 full e)
 
-pub modbus_stored : (address function n : ℕ) (d : Data) → length d.bytes ≡ 256 → n ≡ min d.len 252
-    → (b : List ℕ) → b ≡ paste (padded (modbus_head address function)) 2 d.bytes n
-    → record { bytes = set (set b (2 + n) (crc_of (take (2 + n) b) % 256)) (2 + n + 1) (crc_of (take (2 + n) b) / 256); len = 2 + n + 2 } ≡ modbus_replied address function d
+pub modbus_stored : (address function n : ℕ) (d : Data) → length d.items ≡ 256 → n ≡ min d.len 252
+    → (b : List ℕ) → b ≡ paste (padded (modbus_head address function)) 2 d.items n
+    → record { items = set (set b (2 + n) (crc_of (take (2 + n) b) % 256)) (2 + n + 1) (crc_of (take (2 + n) b) / 256); len = 2 + n + 2 } ≡ modbus_replied address function d
 unfolding modbus_replied with_crc
 modbus_stored address function n d full e b q =
     let most = some_most d n 252 full e in
-    ap (λ (x : List ℕ). record { bytes = set (set x (2 + n) (crc_of (take (2 + n) x) % 256)) (2 + n + 1) (crc_of (take (2 + n) x) / 256); len = 2 + n + 2 }) q
-    ∙ framed_law (modbus_head address function) d.bytes 2 n refl (omega arith) (omega arith) (λ x. crc_of x % 256) (λ x. crc_of x / 256)
+    ap (λ (x : List ℕ). record { items = set (set x (2 + n) (crc_of (take (2 + n) x) % 256)) (2 + n + 1) (crc_of (take (2 + n) x) / 256); len = 2 + n + 2 }) q
+    ∙ framed_law (modbus_head address function) d.items 2 n refl (omega arith) (omega arith) (λ x. crc_of x % 256) (λ x. crc_of x / 256)
     ∙ ap (λ (x : List ℕ). data_of (modbus_reply address function x)) (some_law d n 252 full e)
 
 -- What the callers need: data that fit are framed whole ---------------------------------------

@@ -2,7 +2,7 @@
 use Rattle.std.specs.Prelude.{ℕ, List, [], ◌∷◌, ◌++◌, take}
 use Rattle.lists.specs.Numbers.{bytes}
 use Rattle.lists.specs.Data.{data_of, bytes_in}
-use Rattle.lists.specs.declared.Data.{Data}
+use Rattle.lists.specs.Data.{Data}
 use Rattle.model.specs.Frames.{spinel_reply, modbus_reply}
 
 -- what stands before a Spinel reply's data

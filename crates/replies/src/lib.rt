@@ -1,7 +1,7 @@
 // The framing of both ports' replies and exceptions (01, Frames), and the ACK or code that tells a refusal.
 #![tactic(auto)]
 
-ghost use Rattle.std.specs.Prelude.{◌≡◌, ◌+◌, ◌≤◌, min};
+ghost use Rattle.std.specs.Prelude.{◌≡◌, ◌+◌, ◌≤◌};
 ghost use Rattle.std.proofs.Math.Seq.{paste};
 ghost use Rattle.lists.specs.Data.{padded, data_of};
 ghost use Rattle.model.specs.Frames.{exception_function, exception_reply};
@@ -10,53 +10,37 @@ ghost use Rattle.replies.specs.Replies.{spinel_head, modbus_head, spinel_replied
 
 use lists::Data;
 
-// The ACK that tells a refusal; 00 tells that there is none.
+// The ACK that tells a refusal; 00 tells that there is none. It takes every number: an enum would take fewer.
 pub fn ack_of(n: u8) -> u8
     ensures { result ≡ ack_of n }
 {
-    if n == 0 {
-        return 0x00;
+    match n {
+        0 => 0x00,
+        7 => 0x02,
+        10 => 0x04,
+        _ => 0x03,
     }
-    if n == 7 {
-        return 0x02;
-    }
-    if n == 10 { 0x04 } else { 0x03 }
 }
 
-// A refusal's exception code.
+// A refusal's exception code, of every number too.
 pub fn exception_of(n: u8) -> u8
     ensures { result ≡ exception_of n }
 {
-    if n == 7 {
-        return 0x01;
+    match n {
+        7 => 0x01,
+        9 => 0x02,
+        10 | 12 => 0x04,
+        _ => 0x03,
     }
-    if n == 9 {
-        return 0x02;
-    }
-    if n == 10 {
-        return 0x04;
-    }
-    if n == 12 { 0x04 } else { 0x03 }
-}
-
-// A length, limited to what fits: a struct may hold any.
-fn limited(n: usize, most: usize) -> usize
-    ensures { result ≡ min n most }
-{
-    if n < most { n } else { most }
 }
 
 // The array with the first n bytes of `from` stored from place `at` on.
 fn place(start: [u8; 256], at: usize, from: Data, n: usize) -> [u8; 256]
     requires { at + n ≤ 256 }
-    ensures { result ≡ paste start at from.bytes n }
+    ensures { result ≡ paste start at from.items n }
 {
     let mut bytes = start;
-    let mut i = 0;
-    while i < n {
-        bytes[at + i] = from.bytes[i];
-        i += 1;
-    }
+    bytes[at..at + n].copy_from_slice(&from.items[..n]);
     bytes
 }
 
@@ -79,7 +63,7 @@ fn spinel_head(num: u16, address: u8, signature: u8, ack: u8) -> [u8; 256]
 pub fn spinel_reply(address: u8, signature: u8, ack: u8, d: Data) -> Data
     ensures { result ≡ spinel_replied address signature ack d }
 {
-    let n = limited(d.len, 247);
+    let n = d.len.min(247);
     let num = (n as u16) + 5;
     let end = 7 + n;
     let mut bytes = place(spinel_head(num, address, signature, ack), 7, d, n);
@@ -87,7 +71,7 @@ pub fn spinel_reply(address: u8, signature: u8, ack: u8, d: Data) -> Data
     bytes[end] = sum;
     bytes[end + 1] = 0x0D;
     Data {
-        bytes,
+        items: bytes,
         len: end + 2,
     }
 }
@@ -106,14 +90,14 @@ fn modbus_head(address: u8, function: u8) -> [u8; 256]
 pub fn modbus_reply(address: u8, function: u8, body: Data) -> Data
     ensures { result ≡ modbus_replied address function body }
 {
-    let n = limited(body.len, 252);
+    let n = body.len.min(252);
     let end = 2 + n;
     let mut bytes = place(modbus_head(address, function), 2, body, n);
     let crc = checksum::crc16(&bytes[..end]);
     bytes[end] = encoding::low_byte(crc);
     bytes[end + 1] = encoding::high_byte(crc);
     Data {
-        bytes,
+        items: bytes,
         len: end + 2,
     }
 }
@@ -138,5 +122,8 @@ pub fn exception_reply(address: u8, function: u8, code: u8) -> Data
     let crc = checksum::crc16(&bytes[..3]);
     bytes[3] = encoding::low_byte(crc);
     bytes[4] = encoding::high_byte(crc);
-    Data { bytes, len: 5 }
+    Data {
+        items: bytes,
+        len: 5,
+    }
 }

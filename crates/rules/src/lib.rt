@@ -1,90 +1,47 @@
-// What decoded entries must be by themselves, whatever the state: one loop for every rule, and whether a number stands twice.
+// What a decoded entry must be by itself, whatever the state, and whether a number stands twice.
 #![tactic(auto)]
 
-ghost use Rattle.std.specs.Prelude.{◌≡◌, eqb, drop};
-ghost use Rattle.lists.specs.Tests.{all, any};
-ghost use Rattle.lists.specs.Entries.{entries_in};
-ghost use Rattle.lists.specs.declared.Entry.{Entry as EntryOf};
-ghost use Rattle.model.specs.Counters.{named_twice};
-ghost use Rattle.model.specs.Registers.{port_settable};
-ghost use Rattle.rules.specs.Rules.{keeps_rule};
+ghost use Rattle.std.specs.Prelude.{◌≡◌};
+ghost use Rattle.model.specs.Counters.{mode_settable, named_twice};
+ghost use Rattle.model.specs.Registers.{port_settable, is_zero};
 
-use lists::{Entries, Entry};
+use lists::Entry;
 
-// An input or output that there is; a mode of one; a 0; an address for register 1, else a speed.
-#[derive(Clone, Copy)]
-pub enum Rule {
-    Number,
-    Mode,
-    Zero,
-    PortField,
+// An input that there is, and a mode.
+pub fn is_mode_setting(e: Entry) -> bool
+    ensures { result ≡ mode_settable e }
+{
+    entries::is_numbered(e) & (e.value <= 3)
+}
+
+// A 0, the only value that a counter can be set to.
+pub fn is_zero(e: Entry) -> bool
+    ensures { result ≡ is_zero e }
+{
+    e.value == 0
 }
 
 // An address for register 1, else a speed.
-fn is_port_field(e: Entry) -> bool
+pub fn is_port_field(e: Entry) -> bool
     ensures { result ≡ port_settable e }
 {
     if e.number == 1 {
-        return (1 <= e.value) & (e.value <= 247);
+        (1 <= e.value) & (e.value <= 247)
+    } else {
+        (3 <= e.value) & (e.value <= 10)
     }
-    (3 <= e.value) & (e.value <= 10)
-}
-
-// Whether an entry keeps a rule.
-fn keeps(rule: Rule, e: Entry) -> bool
-    ensures { result ≡ keeps_rule rule e }
-{
-    match rule {
-        Rule::Number => entries::is_numbered(e),
-        Rule::Mode => entries::is_numbered(e) & (e.value <= 3),
-        Rule::Zero => e.value == 0,
-        Rule::PortField => is_port_field(e),
-    }
-}
-
-// Whether every entry does.
-pub fn all_keep(rule: Rule, es: Entries) -> bool
-    ensures { result ≡ all (keeps_rule rule) (entries_in es) }
-{
-    let n = entries::count(es);
-    let mut i = 0;
-    while i < n {
-        if !keeps(rule, entries::entry_at(es, i)) {
-            return false;
-        }
-        i += 1;
-    }
-    true
-}
-
-// Whether an entry from a place on has this number.
-fn named_from(number: usize, es: Entries, from: usize) -> bool
-    ensures { result ≡ any (λ (e : EntryOf). eqb number e.number) (drop from (entries_in es)) }
-{
-    let n = entries::count(es);
-    let mut at = from;
-    while at < n {
-        let e = entries::entry_at(es, at);
-        if number == e.number {
-            return true;
-        }
-        at += 1;
-    }
-    false
 }
 
 // Whether some number stands twice: each is looked for among those behind it, so that sixteen entries take 120 looks at most.
-pub fn named_twice(es: Entries) -> bool
-    ensures { result ≡ named_twice (entries_in es) }
+pub fn named_twice(es: &[Entry]) -> bool
+    ensures { result ≡ named_twice es.now }
 {
-    let n = entries::count(es);
-    let mut i = 0;
-    while i < n {
-        let e = entries::entry_at(es, i);
-        if named_from(e.number, es, i + 1) {
+    let mut rest = es;
+    while let Some((e, behind)) = rest.split_first() {
+        if behind.iter().any(|f| e.number == f.number) {
             return true;
         }
-        i += 1;
+        rest = behind;
     }
     false
 }

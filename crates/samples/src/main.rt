@@ -9,14 +9,10 @@ use load::Played;
 fn number_at(p: Played, i: usize) -> u64
     ensures { result ≡ cond (ltb i 16) (get_or p.after.inputs.counters i 0) p.written }
 {
-    let m = p.after;
-    let x = m.inputs;
-    let counters = x.counters;
-    if i < 16 {
-        let v = counters[i];
-        return v as u64;
+    match p.after.inputs.counters.get(i) {
+        Some(counter) => u64::from(*counter),
+        None => p.written,
     }
-    p.written
 }
 
 // What is written has no contract: std promises nothing of it, and a write that fails is passed over. The gate holds it to the file `stdout`.

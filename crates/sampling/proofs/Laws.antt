@@ -6,7 +6,7 @@ use mathlib.Core.Bool.{Bool, true, false, cond, ◌&&◌, and-false}
 use mathlib.Core.List.{List, [], map}
 use lib.ListN.{length, take}
 use lib.Seq.{take_all}
-use Rattle.lists.specs.declared.Data.{Data}
+use Rattle.lists.specs.Data.{Data}
 use Rattle.lists.specs.Data.{data_of, bytes_in, extended}
 use Rattle.lists.specs.Tests.{any}
 use Rattle.lists.specs.Numbers.{bytes}

@@ -6,7 +6,7 @@ ghost use Rattle.lists.specs.Data.{data_of};
 ghost use Rattle.model.specs.Notice.{noticed, notice_frame};
 ghost use Rattle.model.specs.Temperature.{reading_of, taken};
 ghost use Rattle.model.specs.Calls.{sampled};
-ghost use Rattle.outcomes.specs.Parts.{handled_of};
+ghost use Rattle.outcomes.specs.Parts.{handling, handled_of};
 
 use inputs::Sampled;
 use lists::Data;
@@ -50,7 +50,7 @@ fn notice(address: u8, n: Notice, s: Sampled) -> Data
 // What a sample comes to, whatever the lent buffer: debounce and counting, the notice, and one step of every pulse. No path of
 // its own for a notice: two ways out would copy the settings.
 pub fn handle(m: Module, bits: u16) -> Handled
-    ensures { result ≡ handled_of (sampled bits m) }
+    ensures { handling result ≡ handled_of (sampled bits m) }
 {
     let x = m.inputs;
     let os = m.outputs;
@@ -65,7 +65,7 @@ pub fn handle(m: Module, bits: u16) -> Handled
     after.inputs = stepped;
     after.outputs = pulsed;
     Handled {
-        refusal: 0,
+        refusal: None,
         after,
         reply,
     }

@@ -1,22 +1,33 @@
 -- A line without a CR at its end. Assumes nothing.
-use Prim.Native.Nat.{ℕ, ◌-◌}
+use Prim.Native.Nat.{ℕ, ◌+◌, ◌-◌}
 use native.Mathlib.Omega.{arith}
-use mathlib.Core.Path.{◌≡◌, refl}
+use mathlib.Core.Path.{◌≡◌, refl, sym, ◌∙◌}
+use mathlib.Core.Bool.{Bool, true, false, ◌&&◌}
 use mathlib.Core.List.{List, [], ◌∷◌}
-use lib.ListN.{length, get_or, take}
-use lib.Seq.{take-length}
-use borrow.Author.Tests.{eq-eqb, ne_eqb}
+use lib.Dec.{eqb}
+use lib.ListN.{length, get_or, take, drop, drop_of_length-le}
+use Rattle.std.proofs.Common.{Bor}
+use Rattle.std.specs.Prelude.{Option, Some, None, MatchOption}
+use Rattle.std.specs.Option.{unwrap_or}
+use Rattle.std.specs.Cmp.Lexicographic.{pointwise}
+use Rattle.lists.proofs.ChunkLaws.{rest_first}
 use Rattle.script.specs.Words.{uncr}
 
-pub uncr_empty : (l : List ℕ) → length l ≡ 0 → take (length l) l ≡ uncr l
-unfolding uncr
-uncr_empty [] h = refl
-uncr_empty (a ∷ l) h = absurd (let z : ⊥ = omega arith in z)
+-- whether the last byte is a CR
+last_law : (l : List ℕ) → pointwise eqb (drop (length l - 1) l) (13 ∷ []) ≡ eqb (get_or l (length l - 1) 0) 13
+last_law [] = refl
+last_law (a ∷ l) =
+    let less : length (a ∷ l) - 1 ≡ length l = omega arith in
+    rw (less, rest_first (a ∷ l) (length l) (omega arith), drop_of_length-le (a ∷ l) {i = length l + 1} (omega arith)) (go (eqb (get_or (a ∷ l) (length l) 0) 13))
+  where
+    go : (t : Bool) → (t && true) ≡ t
+    go true = refl
+    go false = refl
 
-pub uncr_cut : (l : List ℕ) → get_or l (length l - 1) 0 ≡ 13 → take (length l - 1) l ≡ uncr l
+pub uncr_law : (l : List ℕ) (o : Option (Bor (List ℕ))) (d : Bor (List ℕ))
+    → d.now ≡ l
+    → MatchOption o (pointwise eqb (drop (length l - 1) l) (13 ∷ []) ≡ false) (λ x. (pointwise eqb (drop (length l - 1) l) (13 ∷ []) ≡ true) × (x.now ≡ take (length l - 1) l) × (length x.now + 1 ≡ length l))
+    → (unwrap_or o d).now ≡ uncr l
 unfolding uncr
-uncr_cut l h = rw (eq-eqb _ _ h)
-
-pub uncr_other : (l : List ℕ) → (get_or l (length l - 1) 0 ≡ 13 → ⊥) → take (length l) l ≡ uncr l
-unfolding uncr
-uncr_other l h = rw (ne_eqb _ _ h, take-length l)
+uncr_law l None d e h = rw (sym (last_law l) ∙ h) e
+uncr_law l (Some x) d e h = rw (sym (last_law l) ∙ h.0) h.1

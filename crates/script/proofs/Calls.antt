@@ -1,74 +1,110 @@
--- The words of a call, one by one. Assumes nothing.
-use Prim.Native.Nat.{ℕ}
-use mathlib.Core.Path.{◌≡◌, refl}
-use mathlib.Core.Bool.{Bool, true, false}
-use mathlib.Core.List.{List, ◌∷◌}
-use Rattle.script.specs.Words.{over, body, parts, first_word, rest_of, same}
+-- A call by its first word and what follows it. Assumes nothing.
+use Prim.Native.Nat.{ℕ, ◌<◌, ◌≤◌}
+use native.Mathlib.Omega.{arith}
+use mathlib.Core.Path.{◌≡◌}
+use mathlib.Core.Bool.{true, false, ◌||◌}
+use mathlib.Core.List.{List, [], ◌∷◌}
+use lib.Dec.{eqb, ltb}
+use borrow.Author.Tests.{lt-ltb, le-ltb, ne_eqb}
+use Rattle.std.specs.Prelude.{Option, Some, None, Result, Ok, Err, MatchOption}
+use Rattle.std.specs.Option.{is_some}
+use Rattle.std.specs.Result.{IsErr, IsErrAnd}
+use Rattle.model.specs.Temperature.{signed_of}
 use Rattle.digits.specs.Reading.{hex, decimal, signed_decimal}
-use Rattle.script.specs.Lines.{of_kind, wrong, sampled, sample, toggle, tenths_of, temperature, fault_word, keyword, called, by_parts, parsed_line}
-use Rattle.script.proofs.Splits.{over_parts, more_parts, rest_more}
+use Rattle.script.specs.Words.{same}
+use Rattle.script.specs.Lines.{of_kind, wrong, good_samples, good_tenths, sampled, sample, toggle, temperature, tenths_of, framed, fault_word, sample_word, toggle_word, temperature_word, spinel_word, modbus_word, keyword, called}
+use Rattle.script.specs.declared.Reason.{Reason}
 
-module _ (l : List ℕ) where
-  pub sample_none : over l ≡ true → wrong 6 ≡ sample (parts l)
+-- what a `?` returns of an error
+pub failed : {A : Type 0} (r : Result A Reason) {e d : Reason} → IsErr r × IsErrAnd r (λ x. x ≡ e) → e ≡ d → r ≡ Err d
+failed (Ok l) h f = absurd h.1
+failed (Err x) h f = rw (h.1, f)
+
+-- where no word was found, none is left
+pub no_word : {A : Type 0} (o : Option A) {P : Type 0} (Q : A → Type 0) → false ≡ is_some o → MatchOption o P Q → P
+no_word None Q e h = h
+no_word (Some x) Q e h = absurd (let z : ⊥ = cc in z)
+
+-- bits and times by their numbers
+module _ (k : ℕ) (b n : ℕ) where
+  pub sampled_first : (a : ℕ) → 65536 ≤ a → wrong 2 ≡ sampled k a b n
+  unfolding sampled
+  sampled_first a h = rw (le-ltb a 65536 h)
+
+  module _ {x a : ℕ} (e : x ≡ a) (h : x < 65536) where
+    pub sampled_second : 65536 ≤ b → wrong 2 ≡ sampled k a b n
+    unfolding sampled
+    sampled_second i = rw (lt-ltb a 65536 (rw e at h), le-ltb b 65536 i)
+
+    module _ {y : ℕ} (f : y ≡ b) (i : y < 65536) where
+      pub sampled_times : (eqb n 0 || ltb 65535 n) ≡ true → wrong 3 ≡ sampled k a b n
+      unfolding sampled
+      sampled_times j = rw (lt-ltb a 65536 (rw e at h), lt-ltb b 65536 (rw f at i), j)
+
+      pub sampled_good : {m : ℕ} → m ≡ n → 0 < m → m < 65536 → good_samples k x y m ≡ sampled k a b n
+      unfolding sampled
+      sampled_good {m} g j l =
+          let some : n ≡ 0 → ⊥ = λ z. omega (arith, g) in
+          let few : n ≤ 65535 = omega (arith, g) in
+          rw (e, f, g) (rw (lt-ltb a 65536 (rw e at h), lt-ltb b 65536 (rw f at i), ne_eqb n 0 some, le-ltb 65535 n few))
+
+-- the words after `sample`, `toggle` and `temperature`
+module _ {p q : List (List ℕ)} {a : List ℕ} (e : p ≡ a ∷ q) where
+  pub sample_one : q ≡ [] → sampled 1 (hex 4 a) 0 1 ≡ sample p
   unfolding sample
-  sample_none h = rw (over_parts l h)
+  sample_one n = rw (e, n)
 
-  pub sample_one : over l ≡ false → over (rest_of l) ≡ true → sampled 1 (hex 4 (first_word l)) 0 1 ≡ sample (parts l)
-  unfolding sample
-  sample_one h k = rw (more_parts l h, over_parts (rest_of l) k)
+  pub temperature_fault : q ≡ [] → same a fault_word ≡ true → of_kind 3 ≡ temperature p
+  unfolding temperature
+  temperature_fault n h = rw (e, n, h)
 
-  pub sample_two : over l ≡ false → over (rest_of l) ≡ false → over (rest_of (rest_of l)) ≡ true → sampled 1 (hex 4 (first_word l)) 0 (decimal (first_word (rest_of l))) ≡ sample (parts l)
-  unfolding sample
-  sample_two h k m = rw (more_parts l h, more_parts (rest_of l) k, over_parts (rest_of (rest_of l)) m)
+  pub temperature_good : q ≡ [] → same a fault_word ≡ false → tenths_of (signed_decimal a) ≡ temperature p
+  unfolding temperature
+  temperature_good n h = rw (e, n, h)
 
-  pub sample_many : over l ≡ false → over (rest_of l) ≡ false → over (rest_of (rest_of l)) ≡ false → wrong 4 ≡ sample (parts l)
-  unfolding sample
-  sample_many h k m = rw (more_parts l h, more_parts (rest_of l) k, more_parts (rest_of (rest_of l)) m)
+  module _ {r : List (List ℕ)} {b : List ℕ} (f : q ≡ b ∷ r) where
+    pub sample_two : r ≡ [] → sampled 1 (hex 4 a) 0 (decimal b) ≡ sample p
+    unfolding sample
+    sample_two n = rw (e, f, n)
 
-  -- no third word, whichever of the first two there are
-  pub toggle_few : over (rest_of (rest_of l)) ≡ true → wrong 6 ≡ toggle (parts l)
-  unfolding toggle
-  toggle_few m = go (over l) (over (rest_of l)) refl refl
-    where
-      go : (s t : Bool) → over l ≡ s → over (rest_of l) ≡ t → wrong 6 ≡ toggle (parts l)
-      go true t h k = rw (over_parts l h)
-      go false true h k = rw (more_parts l h, over_parts (rest_of l) k)
-      go false false h k = rw (more_parts l h, more_parts (rest_of l) k, over_parts (rest_of (rest_of l)) m)
-
-  module _ (m : over (rest_of (rest_of l)) ≡ false) where
-    three_parts : parts l ≡ first_word l ∷ first_word (rest_of l) ∷ first_word (rest_of (rest_of l)) ∷ parts (rest_of (rest_of (rest_of l)))
-    three_parts = rw (more_parts l (rest_more l (rest_more (rest_of l) m)), more_parts (rest_of l) (rest_more (rest_of l) m), more_parts (rest_of (rest_of l)) m)
-
-    pub toggle_three : over (rest_of (rest_of (rest_of l))) ≡ true → sampled 7 (hex 4 (first_word l)) (hex 4 (first_word (rest_of l))) (decimal (first_word (rest_of (rest_of l)))) ≡ toggle (parts l)
+    pub toggle_three : {s : List (List ℕ)} {d : List ℕ} → r ≡ d ∷ s → s ≡ [] → sampled 7 (hex 4 a) (hex 4 b) (decimal d) ≡ toggle p
     unfolding toggle
-    toggle_three h = rw (three_parts, over_parts (rest_of (rest_of (rest_of l))) h)
+    toggle_three g n = rw (e, f, g, n)
 
-    pub toggle_many : over (rest_of (rest_of (rest_of l))) ≡ false → wrong 4 ≡ toggle (parts l)
-    unfolding toggle
-    toggle_many h = rw (three_parts, more_parts (rest_of (rest_of (rest_of l))) h)
+pub tenths_good : (p : ℕ) → p < 65536 → good_tenths (signed_of p) ≡ tenths_of p
+unfolding tenths_of
+tenths_good p h = rw (lt-ltb p 65536 h)
 
-  pub temperature_none : over l ≡ true → wrong 6 ≡ temperature (parts l)
-  unfolding temperature
-  temperature_none h = rw (over_parts l h)
+pub tenths_none : (p : ℕ) → 65536 ≤ p → wrong 3 ≡ tenths_of p
+unfolding tenths_of
+tenths_none p h = rw (le-ltb p 65536 h)
 
-  pub temperature_many : over l ≡ false → over (rest_of l) ≡ false → wrong 4 ≡ temperature (parts l)
-  unfolding temperature
-  temperature_many h k = rw (more_parts l h, more_parts (rest_of l) k)
+-- by its first word
+module _ (w : List ℕ) (p : List (List ℕ)) where
+  pub called_sample : same w sample_word ≡ true → sample p ≡ called (keyword w) p
+  unfolding keyword called
+  called_sample e = rw e
 
-  pub temperature_fault : over l ≡ false → over (rest_of l) ≡ true → same (first_word l) fault_word ≡ true → of_kind 3 ≡ temperature (parts l)
-  unfolding temperature
-  temperature_fault h k e = rw (more_parts l h, over_parts (rest_of l) k, e)
+  module _ (a : same w sample_word ≡ false) where
+    pub called_toggle : same w toggle_word ≡ true → toggle p ≡ called (keyword w) p
+    unfolding keyword called
+    called_toggle e = rw (a, e)
 
-  pub temperature_good : over l ≡ false → over (rest_of l) ≡ true → same (first_word l) fault_word ≡ false → tenths_of (signed_decimal (first_word l)) ≡ temperature (parts l)
-  unfolding temperature
-  temperature_good h k e = rw (more_parts l h, over_parts (rest_of l) k, e)
+    module _ (b : same w toggle_word ≡ false) where
+      pub called_temperature : same w temperature_word ≡ true → temperature p ≡ called (keyword w) p
+      unfolding keyword called
+      called_temperature e = rw (a, b, e)
 
--- a whole line
-module _ (l : List ℕ) where
-  pub parse_none : over (body l) ≡ true → of_kind 0 ≡ parsed_line l
-  unfolding parsed_line by_parts
-  parse_none h = rw (over_parts (body l) h)
+      module _ (d : same w temperature_word ≡ false) where
+        pub called_spinel : same w spinel_word ≡ true → framed (of_kind 4) p ≡ called (keyword w) p
+        unfolding keyword called
+        called_spinel e = rw (a, b, d, e)
 
-  pub parse_call : over (body l) ≡ false → called (keyword (first_word (body l))) (parts (rest_of (body l))) ≡ parsed_line l
-  unfolding parsed_line by_parts
-  parse_call h = rw (more_parts (body l) h)
+        module _ (f : same w spinel_word ≡ false) where
+          pub called_modbus : same w modbus_word ≡ true → framed (of_kind 5) p ≡ called (keyword w) p
+          unfolding keyword called
+          called_modbus e = rw (a, b, d, f, e)
+
+          pub called_other : same w modbus_word ≡ false → wrong 1 ≡ called (keyword w) p
+          unfolding keyword called
+          called_other e = rw (a, b, d, f, e)

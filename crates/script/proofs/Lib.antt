@@ -1,8 +1,7 @@
 pub mod Leading
-pub mod Sames
-pub mod Firsts
 pub mod Splits
-pub mod Bodies
+pub mod Sames
 pub mod Calls
 pub mod Frames
+pub mod Bodies
 pub mod Examples

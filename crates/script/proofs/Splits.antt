@@ -1,13 +1,13 @@
 -- A line's parts, one by one. Assumes nothing.
-use Prim.Native.Nat.{ℕ, suc, ◌+◌}
+use Prim.Native.Nat.{ℕ, suc, ◌-◌, ◌<◌, ◌≤◌}
 use native.Mathlib.Omega.{arith}
 use mathlib.Core.Path.{◌≡◌, refl, sym, ap, ◌∙◌}
 use mathlib.Core.Bool.{Bool, true, false, cond}
 use mathlib.Core.List.{List, [], ◌∷◌, ◌++◌, append-nil, append_assoc}
-use lib.ListN.{length, take, drop, drop_of_length-le}
-use lib.Seq.{drop-drop}
-use borrow.Author.Tests.{eqb-true, eqb-false}
-use Rattle.script.specs.Words.{over, blank, solid, leading, split, parts, skipped, used, first_word, rest_of}
+use lib.ListN.{length, take, drop, length-drop}
+use Rattle.lists.proofs.ChunkLaws.{rest_whole}
+use Rattle.script.proofs.Leading.{leading_le}
+use Rattle.script.specs.Words.{blank, solid, leading, split, parts}
 
 -- a blank between words is passed over
 skip_blank : (b : ℕ) (l : List ℕ) → blank b ≡ true → split [] (b ∷ l) ≡ split [] l
@@ -42,9 +42,16 @@ parts_none (b ∷ l) h = go (blank b) refl h (parts_none l)
     go true e h f = f (omega arith)
     go false e h f = absurd (let z : ⊥ = omega arith in z)
 
+-- what stands from the first word on
+abbrev skipped : List ℕ → List ℕ
+skipped l = drop (leading blank l) l
+
+abbrev first_word : List ℕ → List ℕ
+first_word l = take (leading solid (skipped l)) (skipped l)
+
 -- a first word, and the rest
 parts_first : (l : List ℕ) → (length l ≡ leading blank l → ⊥) → parts l ≡ first_word l ∷ parts (drop (leading solid (skipped l)) (skipped l))
-unfolding split leading first_word skipped
+unfolding split leading
 parts_first [] h = absurd (h refl)
 parts_first (b ∷ l) h = go (blank b) refl h (parts_first l)
   where
@@ -56,27 +63,32 @@ parts_first (b ∷ l) h = go (blank b) refl h (parts_first l)
     go true e h f = rw e (f (λ q. h (ap suc q)))
     go false e h f = rw e (split_word b [] l ∙ ap (λ n. take n (b ∷ l) ∷ split [] (drop n (b ∷ l))) (sym (lead_solid b l e)))
 
-parts_some : (l : List ℕ) → (length l ≡ leading blank l → ⊥) → parts l ≡ first_word l ∷ parts (rest_of l)
-unfolding rest_of used skipped
-parts_some l h = parts_first l h ∙ ap (λ r. first_word l ∷ parts r) (drop-drop (leading solid (skipped l)) (leading blank l) l)
-
--- both, by the test
-pub over_parts : (l : List ℕ) → over l ≡ true → parts l ≡ []
-over_parts l h = parts_none l (eqb-true _ _ h)
-
-pub more_parts : (l : List ℕ) → over l ≡ false → parts l ≡ first_word l ∷ parts (rest_of l)
-more_parts l h = parts_some l (eqb-false _ _ h)
-
--- where a word is left after the first, there was a first
-over_rest : (l : List ℕ) → over l ≡ true → over (rest_of l) ≡ true
-unfolding rest_of used leading
-over_rest l h =
-    let all : length l ≡ leading blank l = eqb-true _ _ h in
-    rw (drop_of_length-le l {i = leading blank l + leading solid (skipped l)} (omega arith))
-
-pub rest_more : (l : List ℕ) → over (rest_of l) ≡ false → over l ≡ false
-rest_more l h = go (over l) refl
+-- a word has at least one byte
+some_solid : (l : List ℕ) → (length l ≡ leading blank l → ⊥) → 1 ≤ leading solid (skipped l)
+unfolding leading
+some_solid [] h = absurd (h refl)
+some_solid (b ∷ l) h = go (blank b) refl h (some_solid l)
   where
-    go : (t : Bool) → over l ≡ t → over l ≡ false
-    go true e = e ∙ sym (over_rest l e) ∙ h
-    go false e = e
+    go : (t : Bool) → blank b ≡ t → (suc (length l) ≡ cond t (suc (leading blank l)) 0 → ⊥) → ((length l ≡ leading blank l → ⊥) → 1 ≤ leading solid (skipped l)) → 1 ≤ leading solid (skipped (b ∷ l))
+    go true e h f = rw e (f (λ q. h (ap suc q)))
+    go false e h f = rw e (rw (lead_solid b l e) (omega arith))
+
+-- the same by counting: a is the number of blanks, n that of the bytes of a word behind them
+module _ (l : List ℕ) (a : ℕ) (p : a ≡ leading blank l) where
+  whole : take (length l - a) (drop a l) ≡ skipped l
+  whole = rest_whole a l ∙ ap (λ i. drop i l) p
+
+  pub none_left : length (take (length l - a) (drop a l)) ≡ 0 → parts l ≡ []
+  none_left h =
+      let none : length (drop (leading blank l) l) ≡ 0 = rw whole at h in
+      parts_none l (omega (arith, length-drop (leading blank l) l, leading_le blank l))
+
+  module _ (n : ℕ) (q : n ≡ leading solid (take (length l - a) (drop a l))) (k : length (take (length l - a) (drop a l)) ≡ 0 → ⊥) where
+    some : length l ≡ leading blank l → ⊥
+    some e = k (rw whole (simp length-drop (omega arith)))
+
+    pub word_left : parts l ≡ take n (take (length l - a) (drop a l)) ∷ parts (drop n (take (length l - a) (drop a l)))
+    word_left = rw (q, whole) (parts_first l some)
+
+    pub less_left : length (drop n (take (length l - a) (drop a l))) < length l
+    less_left = rw (q, whole) (simp length-drop (omega (arith, some_solid l some, leading_le blank l, some)))

@@ -1,2 +1,4 @@
 pub mod Words
+pub mod Parsed
 pub mod Lines
+pub mod Results

@@ -3,7 +3,7 @@ use Rattle.std.specs.Prelude.{ℕ, ◌+◌, cond, ◌&&◌, ◌||◌, List, [], 
 use Rattle.model.specs.Temperature.{signed_of}
 use Rattle.script.specs.Words.{parts, body, same}
 use Rattle.digits.specs.Reading.{decimal, hex, signed_decimal}
-use Rattle.script.specs.declared.Parsed.{Parsed}
+use Rattle.script.specs.Parsed.{Parsed}
 
 -- a line of a kind, all else 0: 0 nothing, 1 sample, 2 temperature, 3 fault, 4 spinel, 5 modbus, 6 wrong, 7 toggle
 abbrev pub of_kind : ℕ → Parsed

@@ -1,5 +1,5 @@
 -- A line as words.
-use Rattle.std.specs.Prelude.{ℕ, suc, ◌+◌, ◌-◌, Bool, true, false, cond, not, ◌||◌, List, [], ◌∷◌, ◌++◌, eqb, length, get_or, take, drop}
+use Rattle.std.specs.Prelude.{ℕ, suc, ◌-◌, Bool, true, false, cond, not, ◌||◌, List, [], ◌∷◌, ◌++◌, eqb, length, get_or, take}
 
 -- a space or a tab
 abbrev pub blank : ℕ → Bool
@@ -40,23 +40,6 @@ split (a ∷ w) (b ∷ l) = cond (blank b) ((a ∷ w) ∷ split [] l) (split (a 
 -- all its words: its parts between blanks
 abbrev pub parts : List ℕ → List (List ℕ)
 parts l = split [] l
-
--- no word is left
-abbrev pub over : List ℕ → Bool
-over l = eqb (length l) (leading blank l)
-
--- the same, word by word: the first one, how far it reaches, and what follows it
-unfoldable pub skipped : List ℕ → List ℕ
-skipped l = drop (leading blank l) l
-
-unfoldable pub used : List ℕ → ℕ
-used l = leading blank l + leading solid (skipped l)
-
-unfoldable pub first_word : List ℕ → List ℕ
-first_word l = take (leading solid (skipped l)) (skipped l)
-
-unfoldable pub rest_of : List ℕ → List ℕ
-rest_of l = drop (used l) l
 
 -- the same bytes
 unfoldable pub same : List ℕ → List ℕ → Bool

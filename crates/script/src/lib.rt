@@ -1,144 +1,110 @@
 // One line of a script as a call.
 #![tactic(auto)]
 
-ghost use Rattle.std.specs.Prelude.{◌≡◌};
-ghost use Rattle.script.specs.Words.{blank, solid, other, plain, leading, uncr, body, parts, over, used, first_word, rest_of, same};
-ghost use Rattle.script.specs.Lines.{of_kind, wrong, sampled, sample, toggle, good_tenths, tenths_of, temperature, fault_word, framed, keyword, called, parsed_line};
+ghost use Rattle.std.specs.Prelude.{ℕ, ◌≡◌, ◌<◌, ◌≤◌, true, ◌||◌, [], ◌∷◌, eqb, ltb, length, MatchOption, MatchResult, IfSome};
+ghost use Rattle.digits.specs.Reading.{hex, decimal};
+ghost use Rattle.script.specs.Words.{blank, solid, other, plain, leading, uncr, body, parts, same};
+ghost use Rattle.script.specs.Lines.{of_kind, sample, toggle, temperature, framed, keyword, called, parsed_line};
+ghost use Rattle.script.specs.Results.{parsed_of, frame_parsed};
+ghost use Rattle.script.specs.declared.Reason.TheVariants.{BadHex, BadNumber};
 
-// What a line asks for, by `kind`: 0 nothing, 1 sample, 2 temperature, 3 fault, 4 Spinel frame, 5 Modbus frame, 6 wrong, 7 toggle;
-// `second` is a toggle's second sample.
-#[derive(Drop)]
-pub struct Parsed {
-    pub kind: u8,
-    pub reason: u8,
-    pub bits: u16,
-    pub second: u16,
-    pub times: u16,
-    pub tenths: i16,
-    pub frame: [u8; 300],
-    pub len: usize,
+use lists::Bounded;
+use std::fmt;
+
+// The bytes of a frame. An array and no `Vec`: reading a line cannot run out of memory.
+pub type Frame = Bounded<u8, 300>;
+
+// What a line asks for.
+#[derive(Clone, Copy)]
+pub enum Line {
+    Empty,
+    Samples { bits: u16, times: u16 },
+    Toggles { first: u16, second: u16, times: u16 },
+    Temperature(i16),
+    Fault,
+    Spinel(Frame),
+    Modbus(Frame),
+}
+
+// Why a line is wrong.
+#[derive(Clone, Copy, PartialEq, Eq, Debug)]
+pub enum Reason {
+    UnknownWord,
+    BadHex,
+    BadNumber,
+    TooManyWords,
+    FrameTooLong,
+    MissingWord,
+}
+
+impl fmt::Display for Reason {
+    fn fmt<W: fmt::Write>(&self, f: &mut fmt::Formatter<W>) -> fmt::Result {
+        f.write_str(match self {
+            Reason::UnknownWord => {
+                "unknown word: expected sample, toggle, temperature, spinel or modbus"
+            }
+            Reason::BadHex => {
+                "bad hex: expected four hex digits after sample, twice four after toggle, two hex digits for each byte of a frame"
+            }
+            Reason::BadNumber => {
+                "bad number: expected 1 to 65535 samples or toggles, a temperature of -32768 to 32767 tenths, or fault"
+            }
+            Reason::TooManyWords => {
+                "too many words: expected sample HHHH, sample HHHH N, toggle HHHH HHHH N, temperature T or temperature fault"
+            }
+            Reason::FrameTooLong => "frame too long: expected at most 300 bytes",
+            Reason::MissingWord => {
+                "missing word: expected sample HHHH, sample HHHH N, toggle HHHH HHHH N, temperature T or temperature fault"
+            }
+        })
+    }
 }
 
 // Whether a byte is a space or a tab.
 fn is_blank(b: u8) -> bool
     ensures { result ≡ blank b }
 {
-    (b == 32) | (b == 9)
+    b == b' ' || b == b'\t'
 }
 
 // How many blanks a line starts with.
 fn blanks(s: &[u8]) -> usize
     ensures { result ≡ leading blank s.now }
 {
-    let mut i = 0;
-    while i < s.len() {
-        if !is_blank(s[i]) {
-            return i;
-        }
-        i += 1;
-    }
-    i
+    s.iter().position(|b| !is_blank(*b)).unwrap_or(s.len())
 }
 
 // How many bytes of a word it starts with.
 fn solids(s: &[u8]) -> usize
     ensures { result ≡ leading solid s.now }
 {
-    let mut i = 0;
-    while i < s.len() {
-        if is_blank(s[i]) {
-            return i;
-        }
-        i += 1;
-    }
-    i
+    s.iter().position(|b| is_blank(*b)).unwrap_or(s.len())
 }
 
 // How many bytes stand before the first that is `stop`, or before the end.
-pub fn stop_at(s: &[u8], stop: u8) -> usize
+fn stop_at(s: &[u8], stop: u8) -> usize
     ensures { result ≡ leading (other stop) s.now }
 {
-    let mut i = 0;
-    while i < s.len() {
-        if s[i] == stop {
-            return i;
-        }
-        i += 1;
+    s.iter().position(|b| *b == stop).unwrap_or(s.len())
+}
+
+// The first word and what follows it, or nothing where no word is left.
+fn next_word(s: &[u8]) -> Option<(&[u8], &[u8])>
+    ensures cases { MatchOption result (parts s.now ≡ []) (λ p. parts s.now ≡ p.0.now ∷ parts p.1.now) }
+    ensures shorter { IfSome result (λ p. length p.1.now < length s.now) }
+{
+    let start = &s[blanks(s)..];
+    if start.is_empty() {
+        return None;
     }
-    i
-}
-
-// How many bytes stand before a comment.
-fn plains(s: &[u8]) -> usize
-    ensures { result ≡ leading plain s.now }
-{
-    stop_at(s, 35)
-}
-
-// Whether two words are the same.
-fn is_same(w: &[u8], v: &[u8]) -> bool
-    ensures { result ≡ same w.now v.now }
-{
-    if w.len() != v.len() {
-        return false;
-    }
-    let mut i = 0;
-    while i < w.len() {
-        if w[i] != v[i] {
-            return false;
-        }
-        i += 1;
-    }
-    true
-}
-
-// Whether no word is left.
-fn is_over(s: &[u8]) -> bool
-    ensures { result ≡ over s.now }
-{
-    s.len() == blanks(s)
-}
-
-// How far the first word reaches.
-fn used_of(s: &[u8]) -> usize
-    ensures { result ≡ used s.now }
-{
-    let a = blanks(s);
-    let n = solids(&s[a..]);
-    a + n
-}
-
-// The first word.
-fn first_word(s: &[u8]) -> &[u8]
-    ensures { result.now ≡ first_word s.now }
-{
-    let a = blanks(s);
-    let n = solids(&s[a..]);
-    let e = a + n;
-    &s[a..e]
-}
-
-// What follows it.
-fn rest_of(s: &[u8]) -> &[u8]
-    ensures { result.now ≡ rest_of s.now }
-{
-    let e = used_of(s);
-    &s[e..]
+    Some(start.split_at(solids(start)))
 }
 
 // The line without a CR at its end.
 fn without_cr(line: &[u8]) -> &[u8]
     ensures { result.now ≡ uncr line.now }
 {
-    let n = line.len();
-    if n == 0 {
-        return &line[..n];
-    }
-    let last = n - 1;
-    if line[last] == 13 {
-        return &line[..last];
-    }
-    &line[..n]
+    line.strip_suffix(b"\r").unwrap_or(line)
 }
 
 // The line before its comment.
@@ -146,235 +112,151 @@ fn body_of(line: &[u8]) -> &[u8]
     ensures { result.now ≡ body line.now }
 {
     let s = without_cr(line);
-    let n = plains(s);
-    &s[..n]
+    &s[..stop_at(s, b'#')]
 }
 
-// A line of a kind, all else 0.
-fn of_kind(kind: u8) -> Parsed
-    ensures { result ≡ of_kind kind }
+// Sixteen bits in four hex digits.
+fn bits_of(w: &[u8]) -> Result<u16, Reason>
+    ensures { MatchResult result (λ n. (n ≡ hex 4 w.now) × (n < 65536)) (λ e. (e ≡ BadHex) × (65536 ≤ hex 4 w.now)) }
 {
-    Parsed {
-        kind,
-        reason: 0,
-        bits: 0,
-        second: 0,
-        times: 0,
-        tenths: 0,
-        frame: [0u8; 300],
-        len: 0,
-    }
+    digits::hex_of(4, w).ok_or(Reason::BadHex)
 }
 
-// A wrong line and its reason.
-fn wrong_of(reason: u8) -> Parsed
-    ensures { result ≡ wrong reason }
+// How many times: 1 to 65,535.
+fn times_of(w: &[u8]) -> Result<u16, Reason>
+    ensures { MatchResult result (λ n. (n ≡ decimal w.now) × (n < 65536) × (0 < n)) (λ e. (e ≡ BadNumber) × ((eqb (decimal w.now) 0 || ltb 65535 (decimal w.now)) ≡ true)) }
 {
-    Parsed {
-        kind: 6,
-        reason,
-        bits: 0,
-        second: 0,
-        times: 0,
-        tenths: 0,
-        frame: [0u8; 300],
-        len: 0,
-    }
-}
-
-// A sample, or a toggle's two, of 16 bits each, some times.
-fn sampled_of(kind: u8, a: u32, b: u32, n: u32) -> Parsed
-    ensures { result ≡ sampled kind a b n }
-{
-    if 65536 <= a {
-        return wrong_of(2);
-    }
-    if 65536 <= b {
-        return wrong_of(2);
-    }
-    if (n == 0) | (65535 < n) {
-        return wrong_of(3);
-    }
-    let bits = a as u16;
-    let second = b as u16;
-    let times = n as u16;
-    Parsed {
-        kind,
-        reason: 0,
-        bits,
-        second,
-        times,
-        tenths: 0,
-        frame: [0u8; 300],
-        len: 0,
+    match digits::decimal_of(w) {
+        None | Some(0) => Err(Reason::BadNumber),
+        Some(n) => Ok(n),
     }
 }
 
 // The words after `sample`.
-fn sample_of(s: &[u8]) -> Parsed
-    ensures { result ≡ sample (parts s.now) }
+#[tactic(auto, unfolding(crate::specs::Lines::sample))]
+fn sample_of(s: &[u8]) -> Result<Line, Reason>
+    ensures { parsed_of result ≡ sample (parts s.now) }
 {
-    if is_over(s) {
-        return wrong_of(6);
+    let Some((bits, s)) = next_word(s) else {
+        return Err(Reason::MissingWord);
+    };
+    let Some((times, s)) = next_word(s) else {
+        let bits = bits_of(bits)?;
+        return Ok(Line::Samples { bits, times: 1 });
+    };
+    if next_word(s).is_some() {
+        return Err(Reason::TooManyWords);
     }
-    let b = digits::hex_of(4, first_word(s));
-    let t = rest_of(s);
-    if is_over(t) {
-        return sampled_of(1, b, 0, 1);
-    }
-    let n = digits::decimal_of(first_word(t));
-    let u = rest_of(t);
-    if is_over(u) {
-        return sampled_of(1, b, 0, n);
-    }
-    wrong_of(4)
+    let bits = bits_of(bits)?;
+    let times = times_of(times)?;
+    Ok(Line::Samples { bits, times })
 }
 
-// The words after `toggle`. A third says that there are a first and a second.
-fn toggle_of(s: &[u8]) -> Parsed
-    ensures { result ≡ toggle (parts s.now) }
+// The words after `toggle`.
+#[tactic(auto, unfolding(crate::specs::Lines::toggle))]
+fn toggle_of(s: &[u8]) -> Result<Line, Reason>
+    ensures { parsed_of result ≡ toggle (parts s.now) }
 {
-    let t = rest_of(s);
-    let u = rest_of(t);
-    if is_over(u) {
-        return wrong_of(6);
+    let Some((first, s)) = next_word(s) else {
+        return Err(Reason::MissingWord);
+    };
+    let Some((second, s)) = next_word(s) else {
+        return Err(Reason::MissingWord);
+    };
+    let Some((times, s)) = next_word(s) else {
+        return Err(Reason::MissingWord);
+    };
+    if next_word(s).is_some() {
+        return Err(Reason::TooManyWords);
     }
-    let v = rest_of(u);
-    if !is_over(v) {
-        return wrong_of(4);
-    }
-    let a = digits::hex_of(4, first_word(s));
-    let b = digits::hex_of(4, first_word(t));
-    let n = digits::decimal_of(first_word(u));
-    sampled_of(7, a, b, n)
-}
-
-// A good temperature.
-fn good_of(tenths: i16) -> Parsed
-    ensures { result ≡ good_tenths tenths }
-{
-    Parsed {
-        kind: 2,
-        reason: 0,
-        bits: 0,
-        second: 0,
-        times: 0,
-        tenths,
-        frame: [0u8; 300],
-        len: 0,
-    }
-}
-
-// A temperature by its pattern.
-fn tenths_of(p: u32) -> Parsed
-    ensures { result ≡ tenths_of p }
-{
-    if 65536 <= p {
-        return wrong_of(3);
-    }
-    good_of(encoding::signed_of(p as u16))
-}
-
-// Whether a word is `fault`.
-fn is_fault(w: &[u8]) -> bool
-    ensures { result ≡ same w.now fault_word }
-{
-    let fault = [102u8, 97, 117, 108, 116];
-    is_same(w, &fault)
+    let first = bits_of(first)?;
+    let second = bits_of(second)?;
+    let times = times_of(times)?;
+    Ok(Line::Toggles {
+        first,
+        second,
+        times,
+    })
 }
 
 // The words after `temperature`.
-fn temperature_of(s: &[u8]) -> Parsed
-    ensures { result ≡ temperature (parts s.now) }
+#[tactic(auto, unfolding(crate::specs::Lines::temperature, crate::specs::Lines::tenths_of))]
+fn temperature_of(s: &[u8]) -> Result<Line, Reason>
+    ensures { parsed_of result ≡ temperature (parts s.now) }
 {
-    if is_over(s) {
-        return wrong_of(6);
+    let Some((word, s)) = next_word(s) else {
+        return Err(Reason::MissingWord);
+    };
+    if next_word(s).is_some() {
+        return Err(Reason::TooManyWords);
     }
-    let w = first_word(s);
-    let t = rest_of(s);
-    if !is_over(t) {
-        return wrong_of(4);
+    if word == b"fault".as_slice() {
+        return Ok(Line::Fault);
     }
-    if is_fault(w) {
-        return of_kind(3);
+    match digits::signed_decimal_of(word) {
+        Some(pattern) => Ok(Line::Temperature(encoding::signed_of(pattern))),
+        None => Err(Reason::BadNumber),
     }
-    tenths_of(digits::signed_decimal_of(w))
+}
+
+// A byte in two hex digits.
+fn byte_of(w: &[u8]) -> Result<u8, Reason>
+    ensures { MatchResult result (λ b. (b ≡ hex 2 w.now) × (b < 256)) (λ e. (e ≡ BadHex) × (256 ≤ hex 2 w.now)) }
+{
+    let n = digits::hex_of(2, w).ok_or(Reason::BadHex)?;
+    u8::try_from(n).map_err(|_| Reason::BadHex)
 }
 
 // The bytes of a frame, one from each word.
-fn frame_of(kind: u8, s: &[u8]) -> Parsed
-    ensures { result ≡ framed (of_kind kind) (parts s.now) }
+fn frame_of(s: &[u8]) -> Result<Frame, Reason>
+    ensures { (k : ℕ) → frame_parsed k result ≡ framed (of_kind k) (parts s.now) }
 {
-    let mut out = of_kind(kind);
-    let mut i = 0;
-    while i < s.len() {
-        if is_over(&s[i..]) {
-            return out;
+    let mut frame = Frame {
+        items: [0; 300],
+        len: 0,
+    };
+    let mut rest = s;
+    while let Some((word, behind)) = next_word(rest) {
+        if 300 <= frame.len {
+            return Err(Reason::FrameTooLong);
         }
-        let at = out.len;
-        if 300 <= at {
-            return wrong_of(5);
-        }
-        let b = digits::hex_of(2, first_word(&s[i..]));
-        if 256 <= b {
-            return wrong_of(2);
-        }
-        out.frame[at] = b as u8;
-        out.len = at + 1;
-        i += used_of(&s[i..]);
+        frame = frame.push(byte_of(word)?);
+        rest = behind;
     }
-    out
+    Ok(frame)
 }
 
-// The kind of a line by its first word, or 6.
-fn keyword_of(w: &[u8]) -> u8
-    ensures { result ≡ keyword w.now }
+// A call by its first word and what follows it.
+fn called_of(word: &[u8], s: &[u8]) -> Result<Line, Reason>
+    ensures { parsed_of result ≡ called (keyword word.now) (parts s.now) }
 {
-    let sample = [115u8, 97, 109, 112, 108, 101];
-    let toggle = [116u8, 111, 103, 103, 108, 101];
-    let temperature = [116u8, 101, 109, 112, 101, 114, 97, 116, 117, 114, 101];
-    let spinel = [115u8, 112, 105, 110, 101, 108];
-    let modbus = [109u8, 111, 100, 98, 117, 115];
-    if is_same(w, &sample) {
-        return 1;
+    if word == b"sample".as_slice() {
+        return sample_of(s);
     }
-    if is_same(w, &toggle) {
-        return 7;
+    if word == b"toggle".as_slice() {
+        return toggle_of(s);
     }
-    if is_same(w, &temperature) {
-        return 2;
+    if word == b"temperature".as_slice() {
+        return temperature_of(s);
     }
-    if is_same(w, &spinel) {
-        return 4;
+    if word == b"spinel".as_slice() {
+        let frame = frame_of(s)?;
+        return Ok(Line::Spinel(frame));
     }
-    if is_same(w, &modbus) {
-        return 5;
+    if word == b"modbus".as_slice() {
+        let frame = frame_of(s)?;
+        return Ok(Line::Modbus(frame));
     }
-    6
-}
-
-// A call by its kind and the words after the first.
-fn called_of(kind: u8, s: &[u8]) -> Parsed
-    ensures { result ≡ called kind (parts s.now) }
-{
-    match kind {
-        1 => sample_of(s),
-        7 => toggle_of(s),
-        2 => temperature_of(s),
-        4 => frame_of(4, s),
-        5 => frame_of(5, s),
-        _ => wrong_of(1),
-    }
+    Err(Reason::UnknownWord)
 }
 
 // The call that a line asks for, or why it is wrong.
-pub fn parse(line: &[u8]) -> Parsed
-    ensures { result ≡ parsed_line line.now }
+#[tactic(auto, unfolding(crate::specs::Lines::parsed_line, crate::specs::Lines::by_parts))]
+pub fn parse(line: &[u8]) -> Result<Line, Reason>
+    ensures { parsed_of result ≡ parsed_line line.now }
 {
-    let s = body_of(line);
-    if is_over(s) {
-        return of_kind(0);
+    match next_word(body_of(line)) {
+        Some((word, s)) => called_of(word, s),
+        None => Ok(Line::Empty),
     }
-    let kind = keyword_of(first_word(s));
-    called_of(kind, rest_of(s))
 }

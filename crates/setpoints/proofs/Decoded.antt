@@ -22,21 +22,6 @@ use Rattle.decoders.proofs.Places.{words_length, value_place}
 use Rattle.setpoints.specs.declared.Setpoint.{Setpoint}
 use Rattle.setpoints.specs.Setpoints.{setpoint, no_setpoint, group_setpoint, register_setpoint, setpoints_of, setpoints_in}
 
--- a group is its first eight bytes
-group_head : (l : List ℕ) → group_setpoint (take 8 l) ≡ group_setpoint l
-unfolding group_setpoint group_thermostat
-group_head l =
-    rw (
-      get_or-take 8 l 0 0 (omega arith),
-      get_or-take 8 l 1 0 (omega arith),
-      get_or-take 8 l 2 0 (omega arith),
-      get_or-take 8 l 3 0 (omega arith),
-      get_or-take 8 l 4 0 (omega arith),
-      get_or-take 8 l 5 0 (omega arith),
-      get_or-take 8 l 6 0 (omega arith),
-      get_or-take 8 l 7 0 (omega arith),
-    )
-
 module _ (d : List ℕ) where
   groups_length : length (map group_setpoint (chunks 8 d)) ≡ length d / 8
   unfolding chunks
@@ -45,15 +30,11 @@ module _ (d : List ℕ) where
   pub twelve_length : length (take 12 (map group_setpoint (chunks 8 d))) ≡ min 12 (length d / 8)
   twelve_length = rw (length-take, groups_length)
 
-  -- as many of any twelve
-  pub twelve_counted : (xs : List Setpoint) → length xs ≡ 12 → length (take (length d / 8) xs) ≡ length (take 12 (map group_setpoint (chunks 8 d)))
-  twelve_counted xs long = rw (twelve_length, length-take, long) (omega arith)
-
   -- the group at a place of the first twelve
-  pub group_place : (j : ℕ) → j < length d / 8 → j < 12 → group_setpoint (drop (8 * j) d) ≡ get_or (take 12 (map group_setpoint (chunks 8 d))) j no_setpoint
+  pub group_place : (j : ℕ) → j < length d / 8 → j < 12 → group_setpoint (take 8 (drop (8 * j) d)) ≡ get_or (take 12 (map group_setpoint (chunks 8 d))) j no_setpoint
   unfolding chunks
   group_place j h k =
-      sym (get_or-take 12 (map group_setpoint (chunks 8 d)) j no_setpoint k ∙ chunk_at group_setpoint 8 (length d / 8) d j no_setpoint h ∙ group_head (drop (8 * j) d))
+      sym (get_or-take 12 (map group_setpoint (chunks 8 d)) j no_setpoint k ∙ chunk_at group_setpoint 8 (length d / 8) d j no_setpoint h)
 
 -- what was decoded counts
 pub setpoints_in_lem : (l : List Setpoint) → setpoints_in (setpoints_of l) ≡ l

@@ -5,7 +5,10 @@ use Rattle.model.specs.State.{fresh_thermostat}
 use Rattle.model.specs.Registers.{place_of}
 use Rattle.model.specs.Temperature.{group_thermostat}
 use Rattle.setpoints.specs.declared.Setpoint.{Setpoint}
-use Rattle.setpoints.specs.declared.Setpoints.{Setpoints}
+use Rattle.lists.specs.declared.Bounded.{Bounded}
+
+abbrev pub Setpoints : Type 0
+Setpoints = Bounded Setpoint 12
 
 abbrev pub setpoint : ℕ → Thermostat → Setpoint
 setpoint n h = record { number = n; thermostat = h }

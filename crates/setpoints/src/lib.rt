@@ -1,11 +1,12 @@
 // Setpoints: what either port's bytes say of one thermostat, decoded and held by value.
 #![tactic(auto)]
 
-ghost use Rattle.std.specs.Prelude.{◌≡◌, [], ◌∷◌, map, length, get_or, take};
+ghost use Rattle.std.specs.Prelude.{◌≡◌, [], ◌∷◌, map, take};
 ghost use Rattle.lists.specs.Chunks.{chunks};
 ghost use Rattle.model.specs.Temperature.{group_thermostat};
-ghost use Rattle.setpoints.specs.Setpoints.{no_setpoint, group_setpoint, register_setpoint, setpoints_of};
+ghost use Rattle.setpoints.specs.Setpoints.{group_setpoint, register_setpoint, setpoints_of, setpoints_in};
 
+use lists::Bounded;
 use model::{Seconds, Thermostat};
 
 // What one output's thermostat is to be: the output's number, and the settings.
@@ -15,12 +16,15 @@ pub struct Setpoint {
     pub thermostat: Thermostat,
 }
 
-// At most twelve of them, by value: `len` says how many count.
-#[derive(Clone, Copy)]
-pub struct Setpoints {
-    pub items: [Setpoint; 12],
-    pub len: usize,
+impl Setpoint {
+    const FRESH: Setpoint = Setpoint {
+        number: 0,
+        thermostat: Thermostat::FRESH,
+    };
 }
+
+// At most twelve of them, by value; what stands behind those that count is empty.
+pub type Setpoints = Bounded<Setpoint, 12>;
 
 // The settings in a group's eight bytes, the first aside.
 fn settings_in(c: &[u8]) -> Thermostat
@@ -44,43 +48,16 @@ fn group_in(c: &[u8]) -> Setpoint
     Setpoint { number, thermostat }
 }
 
-// An empty setpoint.
-fn blank() -> Setpoint
-    ensures { result ≡ no_setpoint }
-{
-    Setpoint {
-        number: 0,
-        thermostat: Thermostat {
-            flags: 0,
-            tempx: 0,
-            tempy: 0,
-            time: Seconds(0),
-            err: 0,
-        },
-    }
-}
-
-// How many of the first n setpoints there are.
-pub fn count(items: [Setpoint; 12], n: usize) -> usize
-    ensures { result ≡ length (take n items) }
-{
-    if n < 12 { n } else { 12 }
-}
-
 // 1AH: its groups in turn; those after the twelfth are passed by.
 pub fn from_groups(d: &[u8]) -> Setpoints
     ensures { result ≡ setpoints_of (take 12 (map group_setpoint (chunks 8 d.now))) }
 {
-    let empty = blank();
-    let mut items = [empty; 12];
-    let n = count(items, d.len() / 8);
-    let mut j = 0;
-    while j < n {
-        let e = group_in(&d[8 * j..]);
-        items[j] = e;
-        j += 1;
+    let len = (d.len() / 8).min(12);
+    let mut items = [Setpoint::FRESH; 12];
+    for j in 0..len {
+        items[j] = group_in(&d[8 * j..8 * j + 8]);
     }
-    Setpoints { items, len: n }
+    Setpoints { items, len }
 }
 
 // Registers 600 up: the four from a on, for the thermostat that they belong to.
@@ -90,19 +67,7 @@ pub fn from_registers(a: u16, d: &[u8]) -> Setpoints
     let place = groups::place(groups::THERMOSTATS, a) / 4;
     let number = ((place + 1) % 256) as u8;
     let thermostat = settings_in(d);
-    let empty = blank();
-    let mut items = [empty; 12];
+    let mut items = [Setpoint::FRESH; 12];
     items[0] = Setpoint { number, thermostat };
     Setpoints { items, len: 1 }
-}
-
-// The setpoint at a place of the first n, an empty one past their end.
-pub fn setpoint_at(items: [Setpoint; 12], n: usize, i: usize) -> Setpoint
-    ensures { result ≡ get_or (take n items) i no_setpoint }
-{
-    if i < count(items, n) {
-        let e = items[i];
-        return e;
-    }
-    blank()
 }

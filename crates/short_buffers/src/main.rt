@@ -8,7 +8,8 @@ ghost use Rattle.short_buffers.specs.Tries.{kept_of, act_of, tried};
 
 use model::{Answer, Module};
 
-// Which call: a sample with its bits, or a frame on a port.
+// Which call: a sample with its bits, or a frame on a port. No closure in its place is plainer: the three calls differ in what they
+// take, and their names are printed.
 #[derive(Clone, Copy)]
 enum Kind {
     Sample(u16),
@@ -20,15 +21,7 @@ enum Kind {
 fn kept(b: &[u8]) -> usize
     ensures { result ≡ kept_of b.now }
 {
-    let mut n = 0;
-    let mut i = 0;
-    while i < b.len() {
-        if b[i] == 0xEE {
-            n += 1;
-        }
-        i += 1;
-    }
-    n
+    b.iter().filter(|x| **x == 0xEE).count()
 }
 
 // One call; a sample has no frame.
@@ -53,6 +46,7 @@ fn print_kind(rt: &impl Print, kind: Kind) {
     };
 }
 
+// By the number that an answer carries.
 fn print_refusal(rt: &impl Print, refusal: u8) {
     if refusal == 0 {
         let _ = rt.write_all(b"accepted");
@@ -64,17 +58,17 @@ fn print_refusal(rt: &impl Print, refusal: u8) {
 // A blank and the two digits of a byte.
 fn print_byte(rt: &impl Print, b: u8) {
     let pair = digits::hex_text(b);
-    let text = [b' ', pair.bytes[0], pair.bytes[1]];
+    let text = [b' ', pair.items[0], pair.items[1]];
     let _ = rt.write_all(&text);
 }
 
 fn print_bytes(rt: &impl Print, bytes: &[u8]) {
-    for i in 0..bytes.len() {
-        print_byte(rt, bytes[i]);
+    for b in bytes {
+        print_byte(rt, *b);
     }
 }
 
-// The length of the buffer, the refusal, the reply, and how many bytes beyond it are as they were.
+// The length of the buffer, the number that the answer carries, the reply, and how many bytes beyond it are as they were.
 fn print_line(rt: &impl Print, room: usize, refusal: u8, reply: &[u8], same: usize) {
     let len = reply.len();
     let _ = print!(rt; "{room} bytes: ");

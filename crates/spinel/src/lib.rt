@@ -1,16 +1,19 @@
-// The Spinel port: the instruction byte picks what serves a frame that passes its checks. `handle` is pure.
+// The Spinel port: its wire, and the instruction byte that picks what serves a frame that passes its checks.
 #![tactic(auto)]
 
-ghost use Rattle.std.specs.Prelude.{◌≡◌, ◌≤◌, length};
+ghost use Rattle.std.specs.Prelude.{◌≡◌};
 ghost use Rattle.model.specs.Refusals.{judged};
-ghost use Rattle.model.specs.Wire.{frame_acted, frame_handled};
 ghost use Rattle.model.specs.Spinel.{spinel_asked, spinel_wire};
-ghost use Rattle.outcomes.specs.Parts.{served_of, handled_of};
+ghost use Rattle.outcomes.specs.Parts.{outcome, served_of};
+ghost use Rattle.spinel.specs.Room.{spinel_room};
 
-use model::Module;
-use outcomes::{Handled, Served};
+use lists::Data;
+use model::{Module, Port, Refusal};
+use outcomes::Served;
+use wires::Wire;
 
 // What an instruction comes to; 7 where 01 lists none of that byte.
+#[tactic(auto, unfolding(model::specs::Spinel::spinel_asked, model::specs::Refusals::judged))]
 fn serve(
     m: Module,
     permitted: bool,
@@ -18,8 +21,8 @@ fn serve(
     signature: u8,
     instruction: u8,
     d: &[u8],
-) -> Served
-    ensures { result ≡ served_of (judged m (spinel_asked (record { permitted = permitted; to_universal = universal; signature = signature; instruction = instruction; content = d.now }) m)) }
+) -> Result<Served, Refusal>
+    ensures { outcome m result ≡ served_of (judged m (spinel_asked (record { permitted = permitted; to_universal = universal; signature = signature; instruction = instruction; content = d.now }) m)) }
 {
     match instruction {
         0x10 => port_instructions::set_notice(m, signature, d),
@@ -46,39 +49,47 @@ fn serve(
         0xE3 => port_instructions::reset_module(m, d),
         0xE4 => port_instructions::give_permission(m, universal, d),
         0xF0 => port_instructions::read_port(m, d),
-        _ => outcomes::bare(7, m),
+        _ => Err(Refusal::Unlisted),
     }
 }
 
-// A frame that passes 2 to 6.
-fn act(m: Module, frame: &[u8]) -> Handled
-    requires { 9 ≤ length frame.now }
-    ensures { result ≡ handled_of (frame_acted spinel_wire frame.now m) }
-{
-    let port = m.spinel;
-    let to = frame[4];
-    let signature = frame[5];
-    let instruction = frame[6];
-    let d = frames::spinel_data(frame);
-    let s = serve(
-        port_answers::spinel_use_up(m),
-        port.permitted,
-        to == 0xFE,
-        signature,
-        instruction,
-        d,
-    );
-    port_answers::spinel_answer(port.address, to, signature, s)
-}
+// The Spinel wire: what differs on it from the other.
+pub struct SpinelWire;
 
-// Any frame: checks 2 to 6, then the instruction.
-pub fn handle(m: Module, frame: &[u8]) -> Handled
-    ensures { result ≡ handled_of (frame_handled spinel_wire frame.now m) }
-{
-    let port = m.spinel;
-    let refusal = frames::spinel_refusal(port.address, frame);
-    if refusal != 0 {
-        return outcomes::unheard(refusal, m);
+impl Wire for SpinelWire {
+    ghost wire = { spinel_wire };
+
+    // 256 bytes less the 9 that frame them.
+    ghost room = { 247 };
+
+    fn port(m: &Module) -> Port {
+        m.spinel
     }
-    act(m, frame)
+
+    fn with_port(m: Module, port: Port) -> Module {
+        outcomes::with_spinel(m, port)
+    }
+
+    fn refusal(own: u8, frame: &[u8]) -> Result<(), Refusal> {
+        frames::spinel_refusal(own, frame)
+    }
+
+    #[tactic(auto, unfolding(model::specs::Spinel::spinel_request))]
+    fn serve(m: Module, permitted: bool, frame: &[u8]) -> Result<Served, Refusal> {
+        let universal = encoding::at(frame, 4) == 0xFE;
+        let signature = encoding::at(frame, 5);
+        let instruction = encoding::at(frame, 6);
+        let d = frames::spinel_data(frame);
+        serve(m, permitted, universal, signature, instruction, d)
+    }
+
+    fn to_all(frame: &[u8]) -> bool {
+        encoding::at(frame, 4) == 0xFF
+    }
+
+    fn reply(own: u8, frame: &[u8], answer: Result<Data, Refusal>) -> Data {
+        port_answers::reply_on_spinel(own, frame, answer)
+    }
+
+    ghost short = { spinel_room };
 }

@@ -8,7 +8,7 @@ use lib.ListN.{length, get_or, get_or-eq_default}
 use lib.Dec.{leb}
 use borrow.Author.Tests.{leb-true, leb-false}
 use Rattle.lists.specs.Data.{extended, pushed}
-use Rattle.lists.specs.declared.Data.{Data}
+use Rattle.lists.specs.Data.{Data}
 use Rattle.lists.specs.Numbers.{bytes}
 use Rattle.model.specs.declared.Output.{Output}
 use Rattle.model.specs.State.{fresh_output}

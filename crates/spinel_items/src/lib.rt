@@ -1,9 +1,8 @@
 // What Spinel shows of one input or output, after the reply so far: its pulse, preset, mode or thermostat.
 #![tactic(auto)]
 
-ghost use Rattle.std.specs.Prelude.{◌≡◌, cond, ◌+◌, ◌-◌, ◌<◌, get_or};
+ghost use Rattle.std.specs.Prelude.{◌≡◌, cond, ◌+◌, ◌<◌};
 ghost use Rattle.lists.specs.Data.{extended};
-ghost use Rattle.model.specs.State.{fresh_output};
 ghost use Rattle.model.specs.Counters.{mode_shown};
 ghost use Rattle.model.specs.Outputs.{pulse_shown, preset_shown, mode_byte};
 ghost use Rattle.model.specs.Temperature.{group_shown};
@@ -11,18 +10,6 @@ ghost use Rattle.spinel_items.specs.Shown.{settings_shown};
 
 use lists::Data;
 use model::{Output, Preset, Thermostat};
-
-// The output of a number, a fresh one where there is none.
-fn output_at(os: [Output; 16], n: u8) -> Output
-    ensures { result ≡ get_or os (n - 1) fresh_output }
-{
-    let k = encoding::index_of(n);
-    if k < 16 {
-        let o = os[k];
-        return o;
-    }
-    Output { on: false, left: 0 }
-}
 
 // A set byte: bit 7 and the number.
 fn set_byte(on: bool, n: u8) -> u8
@@ -36,7 +23,7 @@ fn set_byte(on: bool, n: u8) -> u8
 pub fn show_pulse(os: [Output; 16], n: u8, out: Data) -> Data
     ensures { result ≡ extended out (pulse_shown os n) }
 {
-    let o = output_at(os, n);
+    let o = encoding::element(&os, encoding::index_of(n), Output::FRESH);
     let first = encoding::push(out, set_byte(o.on, n));
     encoding::push(first, outputs::remaining_time(o.left))
 }
@@ -66,7 +53,7 @@ pub fn show_mode(hs: [Thermostat; 16], ps: [Preset; 16], n: u8, out: Data) -> Da
 pub fn show_input_mode(ms: [u8; 16], n: u8, out: Data) -> Data
     ensures { result ≡ extended out (mode_shown ms n) }
 {
-    encoding::push(out, encoding::byte_at(ms, encoding::index_of(n)))
+    encoding::push(out, encoding::element(&ms, encoding::index_of(n), 0))
 }
 
 // A thermostat's group, its eight bytes in turn.

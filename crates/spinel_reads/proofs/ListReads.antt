@@ -2,9 +2,9 @@
 use Prim.Native.Nat.{ℕ, ◌≤◌}
 use native.Mathlib.Omega.{arith}
 use mathlib.Core.Path.{◌≡◌, refl}
-use mathlib.Core.Bool.{Bool, true, cond}
+use mathlib.Core.Bool.{Bool, true, cond, not}
 use mathlib.Core.List.{List, [], ◌∷◌, flat_map}
-use lib.Dec.{eqb}
+use lib.Dec.{eqb, leb}
 use lib.ListN.{length}
 use borrow.Author.Tests.{ne_eqb}
 use Rattle.lists.specs.Data.{data_of, extended}
@@ -12,23 +12,11 @@ use Rattle.lists.specs.Tests.{all, within}
 use Rattle.lists.proofs.Choices.{cond_case, within_low, all_first}
 use Rattle.lists.proofs.DataLaws.{extend_law}
 use Rattle.model.specs.declared.Thermostat.{Thermostat}
-use Rattle.model.specs.Counters.{is_number, every_number, listed, mode_shown}
-use Rattle.model.specs.Outputs.{pulse_shown, preset_shown, mode_byte}
-use Rattle.model.specs.Temperature.{group_shown}
+use Rattle.model.specs.Counters.{is_number, every_number, listed}
+use Rattle.model.specs.Refusals.{refusal_of}
+use Rattle.model.specs.Temperature.{group_shown, read_thermostats}
 use Rattle.model.proofs.Short.{flat_most, group_most}
-use Rattle.spinel_reads.specs.declared.Shown.{Shown}
-use Rattle.spinel_reads.specs.declared.Shown.TheVariants.{InputModes, Pulses, Presets, OutputModes, Groups}
-use Rattle.spinel_reads.specs.declared.Source.{Source}
-use Rattle.spinel_reads.specs.Shown.{shown_bytes, all_if_none}
-
--- a number shows eight bytes at most
-pub shown_most : (what : Shown) (s : Source) (n : ℕ) → length (shown_bytes what s n) ≤ 16
-unfolding mode_shown pulse_shown preset_shown mode_byte
-shown_most InputModes s n = omega arith
-shown_most Pulses s n = omega arith
-shown_most Presets s n = omega arith
-shown_most OutputModes s n = omega arith
-shown_most Groups s n = omega (arith, group_most s.thermostats n)
+use Rattle.spinel_reads.specs.Shown.{all_if_none}
 
 -- 1BH: the numbers that its loop goes through are the ones it names, where each is a number
 pub named_law : (d : List ℕ) → all is_number d ≡ true → listed (all_if_none d) ≡ cond (eqb (length d) 0) every_number d
@@ -44,6 +32,11 @@ pub named_numbers : (d : List ℕ) (b : Bool) → all is_number d ≡ b → all 
 unfolding all within
 named_numbers [] b e = e
 named_numbers (n ∷ d) b e = rw (ne_eqb (length (n ∷ d)) 0 (λ q. omega arith)) e
+
+-- 1BH: what refuses it, in the order of its checks
+pub thermostats_refused : (d : List ℕ) (hs : List Thermostat) → refusal_of (read_thermostats d hs) ≡ cond (not (leb (length d) 12)) 8 (cond (not (all is_number d)) 11 0)
+unfolding read_thermostats refusal_of
+thermostats_refused d hs = rw (named_numbers d (all is_number d) refl)
 
 -- at most sixteen groups fit a reply
 pub groups_fit : (hs : List Thermostat) (d : List ℕ) → length d ≤ 12 → all is_number d ≡ true

@@ -3,8 +3,7 @@ use Rattle.std.specs.Prelude.{ℕ, List}
 use Rattle.lists.specs.Numbers.{bytes}
 use Rattle.model.specs.Refusals.{refuse, telling}
 use Rattle.model.specs.Counters.{some_data}
-use Rattle.encoding.specs.Answers.{told_of}
-use Rattle.encoding.specs.declared.Told.{Told}
+use Rattle.encoding.specs.Answers.{Told, told_of}
 
 -- of states that are already a number: `read_states` of any states of that number
 unfoldable pub states_told : List ℕ → ℕ → Told

@@ -5,10 +5,7 @@ ghost use Rattle.std.specs.Prelude.{◌≡◌};
 ghost use Rattle.model.specs.State.{fresh_module};
 ghost use Rattle.model.specs.Counters.{runs_ended, cleared_counters, reset};
 
-use model::{
-    HalfSeconds, Inputs, Line, Module, Notice, Output, Port, Preset, Reading, Seconds, Settings,
-    Thermostat,
-};
+use model::{Inputs, Line, Module, Notice, Output, Port, Preset, Reading, Settings, Thermostat};
 
 // Each port's fresh address and speed, not permitted.
 const PORT: Port = Port {
@@ -24,17 +21,8 @@ fn fresh_settings() -> Settings
     Settings {
         modes: [0; 16],
         sampling: 20,
-        presets: [Preset {
-            kind: 0,
-            time: HalfSeconds(0),
-        }; 16],
-        thermostats: [Thermostat {
-            flags: 0,
-            tempx: 0,
-            tempy: 0,
-            time: Seconds(0),
-            err: 0,
-        }; 16],
+        presets: [Preset::FRESH; 16],
+        thermostats: [Thermostat::FRESH; 16],
         notice: Notice {
             format: 0,
             mask: 0,
@@ -49,13 +37,10 @@ pub fn fresh() -> Module
 {
     Module {
         inputs: Inputs {
-            lines: [Line {
-                stable: false,
-                run: 0,
-            }; 16],
+            lines: [Line::FRESH; 16],
             counters: [0; 16],
         },
-        outputs: [Output { on: false, left: 0 }; 16],
+        outputs: [Output::FRESH; 16],
         settings: fresh_settings(),
         reading: Reading::Fault,
         last: Reading::Fault,
@@ -68,44 +53,29 @@ pub fn fresh() -> Module
 fn reset_lines(a: [Line; 16]) -> [Line; 16]
     ensures { result ≡ runs_ended a }
 {
-    let mut next = a;
-    for i in 0..16usize {
-        let x = next[i];
-        next[i] = Line {
-            stable: x.stable,
-            run: 0,
-        };
-    }
-    next
+    a.map(|x| Line { run: 0, ..x })
 }
 
 fn reset_inputs(x: Inputs) -> Inputs
     ensures { result ≡ record { lines = runs_ended x.lines; counters = cleared_counters } }
 {
-    let was = x.lines;
-    let lines = reset_lines(was);
-    let mut next = x;
-    next.lines = lines;
-    next.counters = [0; 16];
-    next
+    let counters = [0; 16];
+    Inputs {
+        lines: reset_lines(x.lines),
+        counters,
+    }
 }
 
 // A reset: outputs off, no pulse, counter or run left, no port permitted; all else stays.
 pub fn reset_state(m: Module) -> Module
     ensures { result ≡ reset m }
 {
-    let x = m.inputs;
-    let p = m.spinel;
-    let q = m.modbus;
-    let inputs = reset_inputs(x);
-    let spinel = port_effects::permitted(p, false);
-    let modbus = port_effects::permitted(q, false);
-    let outputs = [Output { on: false, left: 0 }; 16];
+    let outputs = [Output::FRESH; 16];
     Module {
-        inputs,
+        inputs: reset_inputs(m.inputs),
         outputs,
-        spinel,
-        modbus,
+        spinel: port_effects::permitted(m.spinel, false),
+        modbus: port_effects::permitted(m.modbus, false),
         ..m
     }
 }

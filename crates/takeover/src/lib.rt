@@ -48,14 +48,7 @@ pub struct ModuleBefore {
 fn widen(cs: [u16; 16]) -> [u32; 16]
     ensures { result ≡ cs }
 {
-    let mut wide = [0u32; 16];
-    let mut i = 0usize;
-    while i < 16 {
-        let c = cs[i];
-        wide[i] = c as u32;
-        i += 1;
-    }
-    wide
+    cs.map(|c| u32::from(c))
 }
 
 // States, runs and counters.

@@ -1,7 +1,10 @@
 -- The text of an answer, in ASCII.
 use Rattle.std.specs.Prelude.{ℕ, List, [], ◌∷◌, ◌++◌, length}
+use Rattle.lists.specs.declared.Bounded.{Bounded}
 use Rattle.digits.specs.Writing.{decimal_text, hex_text, padded}
-use Rattle.texts.specs.declared.Text.{Text}
+
+abbrev pub Text : Type 0
+Text = Bounded ℕ 772
 
 -- a blank and two hex digits for each byte
 unfoldable pub bytes_text : List ℕ → List ℕ
@@ -14,4 +17,4 @@ answer_text n l = decimal_text n ++ bytes_text l ++ 10 ∷ []
 
 -- the characters l, and zeros to 772: three digits, 256 bytes and a line feed
 abbrev pub text_of : List ℕ → Text
-text_of l = record { bytes = padded 772 l; len = length l }
+text_of l = record { items = padded 772 l; len = length l }

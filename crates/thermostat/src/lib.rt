@@ -4,7 +4,9 @@
 ghost use Rattle.std.specs.Prelude.{◌≡◌, ◌&&◌};
 ghost use Rattle.std.specs.Int.Signed.{lt_z, le_z};
 ghost use Rattle.model.specs.Temperature.{reading_of, levelled, crossed, crossing, heated, failed};
+ghost use Rattle.thermostat.specs.Acting.{acting};
 
+use holding::Action;
 use model::{Output, Reading, Thermostat};
 
 // A sample's reading: valid where it is marked good and from -100 to 200 degrees, else a fault.
@@ -74,11 +76,11 @@ pub fn heat(last: Reading, now: i16, h: Thermostat, o: Output) -> Output
     if !holding::is_active(h) {
         return o;
     }
-    let ss = holding::action_of(h);
-    match ss {
-        0 => level(true, h, now, o),
-        1 => level(false, h, now, o),
-        _ => cross(ss == 2, h, last, now, o),
+    match holding::action_of(h) {
+        Action::OnAbove => level(true, h, now, o),
+        Action::OffAbove => level(false, h, now, o),
+        Action::OnPulse => cross(true, h, last, now, o),
+        Action::OffPulse => cross(false, h, last, now, o),
     }
 }
 
@@ -89,10 +91,19 @@ pub fn fail(h: Thermostat, o: Output) -> Output
     if !holding::is_active(h) {
         return o;
     }
-    let err = h.err;
-    match err {
+    match h.err {
         1 => outputs::set(false),
         2 => outputs::set(true),
         _ => o,
+    }
+}
+
+// One output at a sample with this reading.
+pub fn act(last: Reading, r: Reading, h: Thermostat, o: Output) -> Output
+    ensures { result ≡ acting last r h o }
+{
+    match r {
+        Reading::Valid(now, _) => heat(last, now, h, o),
+        Reading::Fault => fail(h, o),
     }
 }

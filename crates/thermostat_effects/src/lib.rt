@@ -1,27 +1,35 @@
 // What setpoints of either port come to, judged and put in place; and the reading that 51H shows.
 #![tactic(auto)]
 
-ghost use Rattle.std.specs.Prelude.{◌≡◌, cond, not};
+ghost use Rattle.std.specs.Prelude.{◌≡◌, cond, not, ◌||◌, eqb, ltb};
 ghost use mathlib.Core.List.{foldl};
 ghost use Rattle.lists.specs.Data.{data_of};
 ghost use Rattle.lists.specs.Tests.{all};
-ghost use Rattle.model.specs.Temperature.{thermostat_fits, reading_shown, read_temperature};
-ghost use Rattle.encoding.specs.Answers.{told_of};
-ghost use Rattle.setpoints.specs.Setpoints.{setpoints_in};
+ghost use Rattle.model.specs.Temperature.{action, thermostat_fits, reading_shown, read_temperature};
+ghost use Rattle.model.specs.Numbers.{refused_by};
+ghost use Rattle.encoding.specs.Answers.{told, told_of};
 ghost use Rattle.thermostat_effects.specs.Parts.{setpoint_fits, setpoint_put};
 
-use encoding::Told;
+use holding::Action;
 use lists::Data;
-use model::{Reading, Thermostat};
-use setpoints::{Setpoint, Setpoints};
+use model::{Reading, Refusal, Thermostat};
+use setpoints::Setpoint;
+
+// Whether it has the time that its pulses take: one that starts none needs no time.
+fn is_timed(h: Thermostat) -> bool
+    ensures { result ≡ ltb (action h) 2 || not (eqb h.time.0 0) }
+{
+    match holding::action_of(h) {
+        Action::OnAbove | Action::OffAbove => true,
+        Action::OnPulse | Action::OffPulse => h.time.0 != 0,
+    }
+}
 
 // Whether a thermostat's settings are allowed.
 fn fits(h: Thermostat) -> bool
     ensures { result ≡ thermostat_fits h }
 {
-    let s = h.time;
-    let timed = (holding::action_of(h) < 2) | (s.0 != 0);
-    let limits = (h.tempy <= h.tempx) & timed;
+    let limits = (h.tempy <= h.tempx) & is_timed(h);
     (h.err <= 2) & (!holding::is_active(h) | ((holding::sensor_of(h) == 1) & limits))
 }
 
@@ -29,58 +37,38 @@ fn fits(h: Thermostat) -> bool
 fn setpoint_fits(e: Setpoint) -> bool
     ensures { result ≡ setpoint_fits e }
 {
-    let h = e.thermostat;
-    number_lists::is_number(e.number) & fits(h)
+    number_lists::is_number(e.number) & fits(e.thermostat)
 }
 
 // Whether every setpoint fits.
-fn all_fit(es: Setpoints) -> bool
-    ensures { result ≡ all setpoint_fits (setpoints_in es) }
+fn all_fit(es: &[Setpoint]) -> bool
+    ensures { result ≡ all setpoint_fits es.now }
 {
-    let items = es.items;
-    let n = setpoints::count(items, es.len);
-    let mut i = 0;
-    while i < n {
-        if !setpoint_fits(setpoints::setpoint_at(items, es.len, i)) {
-            return false;
-        }
-        i += 1;
-    }
-    true
+    es.iter().all(|e| setpoint_fits(*e))
 }
 
-// Why setpoints are refused, or 0.
-pub fn thermostats_refusal(es: Setpoints) -> u8
-    ensures { result ≡ cond (not (all setpoint_fits (setpoints_in es))) 11 0 }
+// Why setpoints are refused.
+pub fn thermostats_refusal(es: &[Setpoint]) -> Result<(), Refusal>
+    ensures { refused_by result ≡ cond (not (all setpoint_fits es.now)) 11 0 }
 {
-    encoding::refused_if(!all_fit(es), 11, 0)
+    encoding::refused_if(!all_fit(es), Refusal::Value)
 }
 
 // The thermostats after a setpoint.
 fn put(hs: [Thermostat; 16], e: Setpoint) -> [Thermostat; 16]
     ensures { result ≡ setpoint_put hs e }
 {
-    let k = encoding::index_of(e.number);
-    let h = e.thermostat;
-    let mut next = hs;
-    if k < 16 {
-        next[k] = h;
-    }
-    next
+    encoding::with_element(hs, encoding::index_of(e.number), e.thermostat)
 }
 
 // The thermostats after all setpoints, in turn.
-pub fn set_thermostats(hs: [Thermostat; 16], es: Setpoints) -> [Thermostat; 16]
-    ensures { result ≡ foldl setpoint_put hs (setpoints_in es) }
+pub fn set_thermostats(hs: [Thermostat; 16], es: &[Setpoint]) -> [Thermostat; 16]
+    ensures { result ≡ foldl setpoint_put hs es.now }
 {
-    let items = es.items;
-    let n = setpoints::count(items, es.len);
     let mut copy = hs;
-    let mut i = 0;
-    while i < n {
-        let next = put(copy, setpoints::setpoint_at(items, es.len, i));
+    for e in es {
+        let next = put(copy, *e);
         copy = next;
-        i += 1;
     }
     copy
 }
@@ -105,14 +93,10 @@ fn show_reading(r: Reading) -> Data
 }
 
 // 51H: the reading.
-pub fn read_temperature(d: &[u8], r: Reading) -> Told
-    ensures { result ≡ told_of (read_temperature d.now r) }
+pub fn read_temperature(d: &[u8], r: Reading) -> Result<Data, Refusal>
+    ensures { told result ≡ told_of (read_temperature d.now r) }
 {
-    if d.len() != 1 {
-        return encoding::refuse(8);
-    }
-    if 1 < d[0] {
-        return encoding::refuse(11);
-    }
-    encoding::tell(show_reading(r))
+    encoding::refused_if(d.len() != 1, Refusal::DataLength)?;
+    encoding::refused_if(1 < encoding::at(d, 0), Refusal::Value)?;
+    Ok(show_reading(r))
 }

@@ -5,40 +5,33 @@ ghost use Rattle.std.specs.Prelude.{◌≡◌};
 ghost use Rattle.model.specs.State.{with_thermostats};
 ghost use Rattle.model.specs.Refusals.{on_part, reading, judged};
 ghost use Rattle.model.specs.Temperature.{read_temperature, set_thermostats, read_thermostats};
-ghost use Rattle.outcomes.specs.Parts.{served_of};
+ghost use Rattle.outcomes.specs.Parts.{outcome, served_of};
 
-use model::Module;
+use model::{Module, Refusal};
 use outcomes::Served;
 
-// 1AH
-pub fn set_thermostats(m: Module, d: &[u8]) -> Served
-    ensures { result ≡ served_of (judged m (on_part (with_thermostats m) (set_thermostats d.now m.settings.thermostats))) }
+// 1AH. A function for this and for 6AH would take their effects as closures: 01 has a small one for each.
+pub fn set_thermostats(m: Module, d: &[u8]) -> Result<Served, Refusal>
+    ensures { outcome m result ≡ served_of (judged m (on_part (with_thermostats m) (set_thermostats d.now m.settings.thermostats))) }
 {
-    let kept = m.settings;
-    let hs = kept.thermostats;
-    let es = setpoints::from_groups(d);
-    let wrong = !number_lists::items_of(8, d.len());
-    let refusal = encoding::refused_if(wrong, 8, thermostat_effects::thermostats_refusal(es));
-    outcomes::settle(
-        refusal,
-        m,
-        outcomes::with_thermostats(m, thermostat_effects::set_thermostats(hs, es)),
-    )
+    encoding::refused_if(!number_lists::items_of(8, d.len()), Refusal::DataLength)?;
+    let groups = setpoints::from_groups(d);
+    let es = groups.as_slice();
+    thermostat_effects::thermostats_refusal(es)?;
+    let hs = thermostat_effects::set_thermostats(m.settings.thermostats, es);
+    Ok(Served::without_data(outcomes::with_thermostats(m, hs)))
 }
 
 // 1BH
-pub fn read_thermostats(m: Module, d: &[u8]) -> Served
-    ensures { result ≡ served_of (judged m (reading m (read_thermostats d.now m.settings.thermostats))) }
+pub fn read_thermostats(m: Module, d: &[u8]) -> Result<Served, Refusal>
+    ensures { outcome m result ≡ served_of (judged m (reading m (read_thermostats d.now m.settings.thermostats))) }
 {
-    let kept = m.settings;
-    let hs = kept.thermostats;
-    outcomes::told(m, spinel_reads::read_thermostats(d, hs))
+    outcomes::told(m, spinel_reads::read_thermostats(d, m.settings.thermostats))
 }
 
 // 51H
-pub fn read_temperature(m: Module, d: &[u8]) -> Served
-    ensures { result ≡ served_of (judged m (reading m (read_temperature d.now m.reading))) }
+pub fn read_temperature(m: Module, d: &[u8]) -> Result<Served, Refusal>
+    ensures { outcome m result ≡ served_of (judged m (reading m (read_temperature d.now m.reading))) }
 {
-    let reading = m.reading;
-    outcomes::told(m, thermostat_effects::read_temperature(d, reading))
+    outcomes::told(m, thermostat_effects::read_temperature(d, m.reading))
 }

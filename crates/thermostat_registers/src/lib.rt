@@ -6,25 +6,21 @@ ghost use Rattle.model.specs.State.{with_thermostats};
 ghost use Rattle.model.specs.Refusals.{on_part, judged};
 ghost use Rattle.model.specs.Registers.{write_thermostat};
 ghost use Rattle.model.specs.Modbus.{words};
-ghost use Rattle.outcomes.specs.Parts.{served_of};
+ghost use Rattle.outcomes.specs.Parts.{outcome, served_of};
 
-use model::Module;
+use model::{Module, Refusal};
 use outcomes::Served;
 
 // Registers 600 to 663: flags that are no byte are refused as a setpoint that does not fit is.
-pub fn write_thermostat(m: Module, a: u16, d: &[u8]) -> Served
-    ensures { result ≡ served_of (judged m (on_part (with_thermostats m) (write_thermostat a (words d.now) m.settings.thermostats))) }
+pub fn write_thermostat(m: Module, a: u16, d: &[u8]) -> Result<Served, Refusal>
+    ensures { outcome m result ≡ served_of (judged m (on_part (with_thermostats m) (write_thermostat a (words d.now) m.settings.thermostats))) }
 {
-    let kept = m.settings;
-    let hs = kept.thermostats;
-    let es = setpoints::from_registers(a, d);
-    let wrong = groups::no_thermostat(a, d.len() / 2);
+    encoding::refused_if(groups::no_thermostat(a, d.len() / 2), Refusal::Range)?;
     let wide = 255 < encoding::word_from(d, 0);
-    let misfit = encoding::refused_if(wide, 11, thermostat_effects::thermostats_refusal(es));
-    let refusal = encoding::refused_if(wrong, 9, misfit);
-    outcomes::settle(
-        refusal,
-        m,
-        outcomes::with_thermostats(m, thermostat_effects::set_thermostats(hs, es)),
-    )
+    encoding::refused_if(wide, Refusal::Value)?;
+    let written = setpoints::from_registers(a, d);
+    let es = written.as_slice();
+    thermostat_effects::thermostats_refusal(es)?;
+    let hs = thermostat_effects::set_thermostats(m.settings.thermostats, es);
+    Ok(Served::without_data(outcomes::with_thermostats(m, hs)))
 }

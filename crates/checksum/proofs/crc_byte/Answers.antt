@@ -1,17 +1,17 @@
--- `checksum::crc_byte` meets its contract. The loop's invariant: the bits still to pass, on what stands now, come to the byte's CRC. Assumes nothing.
-use Rattle.std.proofs.Common.{◌+◌, ◌-◌, sym, refl, ap, ◌∙◌, arith}
+-- `checksum::crc_byte` meets its contract. Assumes nothing.
+use Rattle.std.proofs.Common.{◌+◌, ◌-◌, sym, ap, ◌∙◌, arith}
 use Rattle.model.specs.Frames.{crc_bits, crc_byte}
 use Rattle.checksum.proofs.Laws.{bits_next, bits_end}
 use Rattle.checksum.proofs.crc_byte.Goals as goal
 
-pub loop-i-init : goal.loop-i-init
+pub loop-bit-init : goal.loop-bit-init
 unfolding crc_byte
-loop-i-init c = (omega arith, refl)
+loop-bit-init c = rw c.from.ensures
 
-pub loop-i-preserved : goal.loop-i-preserved
-loop-i-preserved c =
-    (omega arith, ap (crc_bits (8 - (c.loop-i.i + 1))) c.crc_bit-x.ensures ∙ sym (bits_next c.loop-i.i c.loop-i.x (omega arith)) ∙ c.loop-i.invariant.1)
+pub loop-bit-preserved : goal.loop-bit-preserved
+loop-bit-preserved c =
+    ap (crc_bits (8 - (c.loop-bit._bit + 1))) c.crc_bit-x.ensures ∙ sym (bits_next c.loop-bit._bit c.loop-bit.x (omega arith)) ∙ c.loop-bit.invariant
 
 pub returns : goal.returns
 returns c =
-    sym (bits_end c.loop-i.i c.loop-i.x (omega arith)) ∙ c.loop-i.invariant.1
+    sym (bits_end c.loop-bit._bit c.loop-bit.x (omega arith)) ∙ c.loop-bit.invariant

@@ -1,14 +1,9 @@
 -- `counter_effects::clear` meets its contract. The loop's invariant: the numbers left, on the copy so far, come to the whole. Assumes nothing.
-use Prim.Native.Nat.{◌-◌}
 use mathlib.Core.Path.{◌≡◌}
 use mathlib.Core.List.{foldl}
 use lib.ListN.{drop}
-use Rattle.lists.specs.Entries.{entries_in}
 use Rattle.model.specs.Registers.{clear_one}
 use Rattle.counter_effects.proofs.clear.Given as goal
 
-abbrev pub invariant-loop-i : goal.invariant-loop-i
-invariant-loop-i l = foldl clear_one l.copy (drop l.i (entries_in l.es)) ≡ foldl clear_one l.initial.copy (entries_in l.es)
-
-abbrev pub decreases-loop-i : goal.decreases-loop-i
-decreases-loop-i l = l.n - l.i
+abbrev pub invariant-loop-e : goal.invariant-loop-e
+invariant-loop-e l = foldl clear_one l.copy (drop l.e-index l.es) ≡ foldl clear_one l.fn.cs l.es

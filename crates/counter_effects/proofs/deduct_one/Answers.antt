@@ -4,4 +4,4 @@ use Rattle.counter_effects.proofs.deduct_one.Goals as goal
 
 pub returns : goal.returns
 unfolding deduct_one
-returns c = rw (c.with_counter.ensures, c.less.ensures, c.counter_at-have.ensures, c.place-k.ensures)
+returns c = rw (c.with_element.ensures, c.saturating_sub.ensures, c.element-have.ensures, c.place-k.ensures)

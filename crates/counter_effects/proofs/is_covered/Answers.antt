@@ -4,4 +4,4 @@ use Rattle.counter_effects.proofs.is_covered.Goals as goal
 
 pub returns : goal.returns
 unfolding deductible
-returns c = rw (c.is_numbered.ensures, c.counter_at-have.ensures, c.place.ensures)
+returns c = rw (c.is_numbered.ensures, c.element-have.ensures, c.place.ensures)

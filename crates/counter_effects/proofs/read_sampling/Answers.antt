@@ -1,17 +1,18 @@
 -- `counter_effects::read_sampling` meets its contract. Assumes nothing.
-use native.Mathlib.Omega.{arith}
-use mathlib.Core.List.{[]}
-use borrow.Author.Tests.{eq-eqb, ne_eqb}
+use Rattle.std.proofs.Common.{◌≡◌, Err, rules, arith, []}
 use Rattle.lists.proofs.DataLaws.{push_law}
-use Rattle.model.specs.Refusals.{judged}
+use Rattle.model.specs.Refusals.{refusal_of}
 use Rattle.model.specs.Counters.{read_sampling}
+use Rattle.encoding.proofs.Telling.{told_refused, told_answered}
 use Rattle.counter_effects.proofs.read_sampling.Goals as goal
 
-pub returns-then-d-ne0 : goal.returns-then-d-ne0
-unfolding read_sampling judged
-returns-then-d-ne0 c = rw (c.refuse.ensures, ne_eqb _ _ c.if-d-ne0.true)
+pub returns-in_err-refused_if : goal.returns-in_err-refused_if
+unfolding read_sampling refusal_of
+returns-in_err-refused_if c =
+    let e : c.from_residual.result ≡ Err c.in_err-refused_if.field-0.0 = search rules in
+    rw e (told_refused (read_sampling c.args.d.now c.args.sampling) _ (rw c.is_empty.ensures at c.in_err-refused_if.ensures))
 
 pub returns : goal.returns
-unfolding read_sampling judged
+unfolding read_sampling refusal_of
 returns c =
-    rw (c.tell.ensures, c.push.ensures, c.empty.ensures, eq-eqb _ _ c.if-d-ne0.false, push_law [] _ (omega arith))
+    told_answered (read_sampling c.args.d.now c.args.sampling) _ (rw c.is_empty.ensures at c.in_ok-refused_if.ensures) (rw (c.push.ensures, c.empty.ensures) (push_law [] _ (omega arith)))

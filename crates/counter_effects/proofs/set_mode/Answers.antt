@@ -5,4 +5,4 @@ use Rattle.counter_effects.proofs.set_mode.Goals as goal
 
 pub returns : goal.returns
 unfolding set_mode_byte set_mode
-returns c = rw (c.with_byte.ensures, c.byte.ensures, c.place.ensures)
+returns c = rw (c.with_element.ensures, c.byte.ensures, c.place.ensures)

@@ -7,6 +7,6 @@ pub returns-then-d-eq1 : goal.returns-then-d-eq1
 unfolding deduct_counters
 returns-then-d-eq1 c = rw (c.clear_all.ensures, eq-eqb _ _ c.if-d-eq1.true)
 
-pub returns : goal.returns
+pub returns-else-d-eq1 : goal.returns-else-d-eq1
 unfolding deduct_counters
-returns c = rw (c.deduct_listed.ensures, ne_eqb _ _ c.if-d-eq1.false)
+returns-else-d-eq1 c = rw (c.deduct_listed.ensures, ne_eqb _ _ c.if-d-eq1.false)

@@ -7,6 +7,6 @@ pub returns-then-d-eq1 : goal.returns-then-d-eq1
 unfolding asks_every
 returns-then-d-eq1 c = rw (eq-eqb _ _ c.if-d-eq1.true)
 
-pub returns : goal.returns
+pub returns-else-d-eq1 : goal.returns-else-d-eq1
 unfolding asks_every
-returns c = rw (ne_eqb _ _ c.if-d-eq1.false)
+returns-else-d-eq1 c = rw (ne_eqb _ _ c.if-d-eq1.false)

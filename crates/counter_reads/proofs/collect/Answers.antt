@@ -5,10 +5,8 @@ use Rattle.counter_reads.proofs.collect.Goals as goal
 
 pub returns-then-asks_every : goal.returns-then-asks_every
 returns-then-asks_every c =
-    let from = c.args in
-    rw (c.read_each.ensures, c.every_of-every.ensures, c.at.ensures, ← named_every from.d.now (sym c.asks_every.ensures ∙ c.if-asks_every.true))
+    rw (c.read_each.ensures, c.every_of.ensures, c.at.ensures, ← named_every c.args.d.now (sym c.asks_every.ensures ∙ c.if-asks_every.true))
 
-pub returns : goal.returns
-returns c =
-    let from = c.args in
-    rw (c.read_each-2.ensures, named_own from.d.now (sym c.asks_every.ensures ∙ c.if-asks_every.false))
+pub returns-else-asks_every : goal.returns-else-asks_every
+returns-else-asks_every c =
+    rw (c.read_each-else-asks_every.ensures, named_own c.args.d.now (sym c.asks_every.ensures ∙ c.if-asks_every.false))

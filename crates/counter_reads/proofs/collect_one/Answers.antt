@@ -7,6 +7,6 @@ pub returns-then-p-lt128 : goal.returns-then-p-lt128
 unfolding read_one
 returns-then-p-lt128 c = rw (lt-leb _ _ c.if-p-lt128.true)
 
-pub returns : goal.returns
+pub returns-else-p-lt128 : goal.returns-else-p-lt128
 unfolding read_one
-returns c = rw (c.with_counter.ensures, c.index_of.ensures, le-leb _ _ c.if-p-lt128.false)
+returns-else-p-lt128 c = rw (c.with_element.ensures, c.index_of.ensures, le-leb _ _ c.if-p-lt128.false)

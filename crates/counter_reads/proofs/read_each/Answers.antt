@@ -1,12 +1,13 @@
--- `counter_reads::read_each` meets its contract. The loop's invariant: what is left, on the answer so far, comes to the whole. Assumes nothing.
-use mathlib.Core.Path.{◌∙◌}
-use lib.ListN.{drop_of_length-le}
-use Rattle.counter_reads.specs.Reading.{read_start}
+-- `counter_reads::read_each` meets its contract. Assumes nothing.
+use borrow.Author.Tests.{tests}
+use Rattle.std.proofs.Common.{rules, ◌∙◌}
+use Rattle.std.proofs.lemmas.Iterator.Consumers.{fold_from_yields_List}
+use Rattle.std.proofs.lemmas.Iterator.{YieldsList-from_slice}
+use Rattle.counter_reads.specs.Reading.{read_step, read_start}
 use Rattle.counter_reads.proofs.Readings.{read_steps}
 use Rattle.counter_reads.proofs.read_each.Goals as goal
 
 pub returns : goal.returns
 returns c =
-    let from = c.args in
-    let none = drop_of_length-le from.ps.now {i = c.loop-i.i} c.loop-i-test.false in
-    rw none at c.loop-i.invariant.1 ∙ rw c.read_start-r.ensures (read_steps from.ps.now (read_start from.cs))
+    let each = fold_from_yields_List _ read_step _ _ c.fold.ensures.ran (YieldsList-from_slice c.args.ps.now cc) (λ a x b q k. search (rules, tests)) in
+    each ∙ rw c.read_start.ensures (read_steps c.args.ps.now (read_start c.args.cs))

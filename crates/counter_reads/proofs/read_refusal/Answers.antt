@@ -1,12 +1,19 @@
 -- `counter_reads::read_refusal` meets its contract. Assumes nothing.
+use Rattle.std.proofs.Common.{◌≡◌, Err, rules}
+use mathlib.Core.Bool.{not}
 use Rattle.model.specs.Refusals.{refusal_of}
-use Rattle.model.specs.Counters.{read_counters}
+use Rattle.model.specs.Counters.{items_of, read_counters}
+use Rattle.model.proofs.Refusing.{stops, goes}
 use Rattle.number_lists.proofs.Lists.{items_length}
-use Rattle.counter_reads.proofs.Readings.{named_law}
 use Rattle.counter_reads.proofs.read_refusal.Goals as goal
+
+pub returns-in_err-refused_if : goal.returns-in_err-refused_if
+unfolding read_counters refusal_of
+returns-in_err-refused_if c cs =
+    let e : c.from_residual.result ≡ Err c.in_err-refused_if.field-0.0 = search rules in
+    rw e (stops (not (items_of 1 c.args.d.now)) 8 _ _ (rw (c.items_of.ensures, ← items_length 1 c.args.d.now) at c.in_err-refused_if.ensures))
 
 pub returns : goal.returns
 unfolding read_counters refusal_of
 returns c cs =
-    let d = c.args.d.now in
-    rw (c.refused_if-2.ensures, c.refused_if.ensures, c.items_of.ensures, c.all_numbers.ensures, c.asks_every.ensures, named_law d, items_length 1 d)
+    rw (c.refused_if-2.ensures, c.all_named.ensures) (goes (not (items_of 1 c.args.d.now)) 7 _ (rw (c.items_of.ensures, ← items_length 1 c.args.d.now) at c.in_ok-refused_if.ensures))

@@ -5,4 +5,4 @@ use Rattle.lists.proofs.DataLaws.{push_law}
 use Rattle.counter_reads.proofs.read_start.Goals as goal
 
 pub returns : goal.returns
-returns c = rw (c.push-reply.ensures, c.empty.ensures, push_law [] 32 (omega arith))
+returns c = rw (c.push.ensures, c.empty.ensures, push_law [] _ (omega arith))

@@ -1,27 +1,69 @@
 -- `counter_registers::write_counters` meets its contract: in its group the range is decoded whole. Assumes nothing.
+use Prim.Native.Nat.{ℕ}
 use native.Mathlib.Omega.{arith}
-use mathlib.Core.Path.{refl}
-use mathlib.Core.Bool.{cond, not}
-use mathlib.Core.List.{List, [], foldl}
-use lib.ListN.{length}
+use Rattle.std.proofs.Common.{rules, ◌≡◌, refl, ap, ◌∙◌, Err, length, take}
+use mathlib.Core.Bool.{Bool, false, cond, not}
+use mathlib.Core.List.{List, []}
 use Rattle.lists.specs.Tests.{all}
+use Rattle.lists.specs.Data.{data_of}
 use Rattle.lists.specs.declared.Entry.{Entry}
-use Rattle.lists.specs.Entries.{numbered}
+use Rattle.lists.specs.Entries.{numbered, entries_of, entries_in}
+use Rattle.model.specs.declared.Module.{Module}
 use Rattle.model.specs.State.{with_counters}
-use Rattle.model.specs.Refusals.{accepting, refuse, on_part, refusal_of}
-use Rattle.model.specs.Registers.{counter_group, outside, number_at, is_zero, clear_one, write_counters}
+use Rattle.model.specs.Refusals.{Request, on_part, refusal_of}
+use Rattle.model.specs.Registers.{counter_group, outside, number_at, is_zero, write_counters}
 use Rattle.model.specs.Modbus.{words}
+use Rattle.model.proofs.Refusing.{passes}
 use Rattle.decoders.proofs.Places.{words_length, range_whole}
-use Rattle.outcomes.proofs.Laws.{decoded_law}
+use Rattle.outcomes.proofs.Laws.{refused_first, refused_later, done_later}
 use Rattle.counter_registers.proofs.write_counters.Goals as goal
+
+module _ (m : Module) (a : ℕ) (d : List ℕ) where
+  abbrev wrong : Bool
+  wrong = outside counter_group a (length (words d))
+
+  abbrev written : List Entry
+  written = numbered (number_at counter_group a) (words d)
+
+  abbrev asked : Request Module
+  asked = on_part (with_counters m) (write_counters a (words d) m.inputs.counters)
+
+  abbrev misfit : ℕ
+  misfit = cond (not (all is_zero written)) 11 0
+
+  first : refusal_of asked ≡ cond wrong 9 misfit
+  unfolding write_counters refusal_of
+  first = refl
+
+  -- what is decoded of a range that is not refused
+  whole : wrong ≡ false → entries_in (entries_of (take 16 written)) ≡ written
+  whole h = range_whole counter_group a d (omega arith) (rw (words_length d) at h)
+
+pub returns-in_err-refused_if : goal.returns-in_err-refused_if
+returns-in_err-refused_if c =
+    let a = c.args in
+    let d = a.d.now in
+    let e : c.from_residual.result ≡ Err c.in_err-refused_if.field-0.0 = search rules in
+    rw e (refused_first a.m (asked a.m a.a d) (wrong a.m a.a d) 8 (misfit a.m a.a d) (first a.m a.a d) _ (rw (c.is_outside-outside.ensures, ← words_length d) at c.in_err-refused_if.ensures))
+
+pub returns-in_err-clear_refusal : goal.returns-in_err-clear_refusal
+unfolding refusal_of
+returns-in_err-clear_refusal c =
+    let a = c.args in
+    let d = a.d.now in
+    let e : c.from_residual-in_err-clear_refusal.result ≡ Err c.in_err-clear_refusal.field-0.0 = search rules in
+    let right = rw (c.is_outside-outside.ensures, ← words_length d) at c.in_ok-refused_if.ensures in
+    let es = c.as_slice-es.ensures ∙ ap entries_in c.registers-decoded.ensures ∙ whole a.m a.a d (passes (wrong a.m a.a d) 8 right) in
+    rw e (refused_later a.m (asked a.m a.a d) (wrong a.m a.a d) 8 (misfit a.m a.a d) (first a.m a.a d) _ right (rw es at c.in_err-clear_refusal.ensures))
 
 pub returns : goal.returns
 unfolding write_counters refusal_of
 returns c =
     let a = c.args in
     let d = a.d.now in
-    let cs = a.m.inputs.counters in
-    let wrong = outside counter_group a.a (length (words d)) in
-    rw (c.settle.ensures, c.with_counters.ensures, c.clear.ensures, c.refused_if-refusal.ensures, c.clear_refusal.ensures, c.is_outside-wrong.ensures, c.registers-es.ensures, ← words_length d)
-    (decoded_law a.m (λ (es : List Entry). on_part (with_counters a.m) (refuse 9 wrong (refuse 11 (not (all is_zero es)) (accepting (foldl clear_one cs es) [])))) 8 (λ es. cond (not (all is_zero es)) 11 0) wrong (λ l. refl) _ (numbered (number_at counter_group a.a) (words d))
-    (λ h. range_whole counter_group a.a d (omega arith) (rw (words_length d) at h)) _ (λ _. refl) refl)
+    let right = rw (c.is_outside-outside.ensures, ← words_length d) at c.in_ok-refused_if.ensures in
+    let es = c.as_slice-es.ensures ∙ ap entries_in c.registers-decoded.ensures ∙ whole a.m a.a d (passes (wrong a.m a.a d) 8 right) in
+    let fits : 0 ≡ misfit a.m a.a d = rw es at c.in_ok-clear_refusal.ensures in
+    rw c.without_data.ensures
+    (done_later a.m (asked a.m a.a d) (wrong a.m a.a d) 8 (misfit a.m a.a d) (first a.m a.a d) c.with_counters.result (data_of []) right fits
+    (rw (c.with_counters.ensures, c.clear-counters.ensures, es)) refl)

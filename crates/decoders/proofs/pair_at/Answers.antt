@@ -4,4 +4,4 @@ use Rattle.decoders.proofs.pair_at.Goals as goal
 
 pub returns : goal.returns
 returns c =
-    rw (c.value-value.ensures, c.at-2.ensures, c.wide-number.ensures, c.at.ensures) (pair_place c.args.d.now c.args.j c.requires)
+    rw (c.from-value.ensures, c.at-2.ensures, c.from-number.ensures, c.at.ensures) (pair_place c.args.d.now c.args.j c.requires)

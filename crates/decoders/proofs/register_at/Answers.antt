@@ -5,4 +5,4 @@ use Rattle.decoders.proofs.register_at.Goals as goal
 
 pub returns : goal.returns
 returns c =
-    rw (c.word_from-word.ensures, c.number.ensures) (register_place c.args.d.now c.args.j (number_at c.args.g c.args.a) c.requires)
+    rw (c.from.ensures, c.word_from-word.ensures, c.number.ensures) (register_place c.args.d.now c.args.j (number_at c.args.g c.args.a) c.requires)

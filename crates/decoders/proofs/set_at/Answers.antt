@@ -6,4 +6,4 @@ use Rattle.decoders.proofs.set_at.Goals as goal
 pub returns : goal.returns
 unfolding set_byte
 returns c =
-    rw (c.value-value.ensures, c.wide-number.ensures, c.at-b.ensures) (set_place c.args.d.now c.args.j)
+    rw (c.from-value.ensures, c.from-number.ensures, c.at-b.ensures) (set_place c.args.d.now c.args.j)

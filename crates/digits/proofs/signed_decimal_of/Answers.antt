@@ -1,15 +1,22 @@
 -- `digits::signed_decimal_of` meets its contract. Assumes nothing.
-use Rattle.digits.proofs.Signs.{signed_none, signed_minus, signed_plus, signed_bare}
+use native.Mathlib.Omega.{arith}
+use mathlib.Core.Path.{ap, ◌∙◌}
+use borrow.Author.Rules.{rules}
+use Rattle.digits.specs.Reading.{found, positive, negative}
+use Rattle.digits.proofs.Signs.{signed, positive_none, negative_none, signed_none, signed_minus, signed_plus, signed_bare}
 use Rattle.digits.proofs.signed_decimal_of.Goals as goal
 
-pub returns-then-w-eq0 : goal.returns-then-w-eq0
-returns-then-w-eq0 c = signed_none _ c.if-w-eq0.true
+pub returns-in_err-sign : goal.returns-in_err-sign
+returns-in_err-sign c = c.from_residual.ensures ∙ ap (found 65536) (signed_none _ c.in_err-sign.ensures.cases)
 
-pub returns-then-w-eq45 : goal.returns-then-w-eq45
-returns-then-w-eq45 c = rw (c.negative_of.ensures, c.decimal_of.ensures) (signed_minus _ c.if-w-eq45.true)
+pub returns-in-45 : goal.returns-in-45
+returns-in-45 c =
+    signed _ negative (negative_none _) c.decimal_of.ensures c.and_then.ensures (λ x q. search rules) ∙ ap (found 65536) (signed_minus c.in_ok-sign.ensures.cases.0 c.in-45.is)
 
-pub returns-then-w-eq43 : goal.returns-then-w-eq43
-returns-then-w-eq43 c = rw (c.positive_of.ensures, c.decimal_of-then-w-eq43.ensures) (signed_plus _ c.if-w-eq45.false c.if-w-eq43.true)
+pub returns-in-43 : goal.returns-in-43
+returns-in-43 c =
+    signed _ positive (positive_none _) c.decimal_of-in-43.ensures c.and_then-in-43.ensures (λ x q. search rules) ∙ ap (found 65536) (signed_plus c.in_ok-sign.ensures.cases.0 c.in-43.is)
 
-pub returns : goal.returns
-returns c = rw (c.positive_of-2.ensures, c.decimal_of-2.ensures) (signed_bare _ c.if-w-eq45.false c.if-w-eq43.false)
+pub returns-in_default : goal.returns-in_default
+returns-in_default c =
+    signed _ positive (positive_none _) c.decimal_of-in_default.ensures c.and_then-in_default.ensures (λ x q. search rules) ∙ ap (found 65536) (signed_bare c.in_ok-sign.ensures.cases.0 (λ e. omega arith) (λ e. omega arith))

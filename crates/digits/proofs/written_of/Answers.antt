@@ -9,10 +9,10 @@ use Rattle.digits.proofs.written_of.Goals as goal
 pub loop-i-preserved : goal.loop-i-preserved
 loop-i-preserved c =
     let base = c.args.base in
-    (omega arith, search rules, rw c.character_of.ensures (stored base c.loop-i.i c.loop-i.left c.loop-i.bytes (omega arith) (omega arith) ∙ c.loop-i.invariant.2))
+    (search rules, rw c.character_of.ensures (stored base c.loop-i.i c.loop-i.left c.loop-i.items (omega arith) (omega arith) ∙ c.loop-i.invariant.1))
 
 pub returns : goal.returns
 unfolding written padded
 returns c =
     let none : c.loop-i.i ≡ 0 = omega arith in
-    rw (length-written c.args.base c.args.len c.args.n, rw none at c.loop-i.invariant.2)
+    rw (length-written c.args.base c.args.len c.args.n, rw none at c.loop-i.invariant.1)

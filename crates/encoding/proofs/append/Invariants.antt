@@ -1,12 +1,7 @@
--- `encoding::append` meets its contract. The loop's invariant: the bytes of `b` still to pass, on what stands now, come to all of them on `d`. Assumes nothing.
-use Prim.Native.Nat.{◌≤◌, ◌-◌}
-use mathlib.Core.Path.{◌≡◌}
-use lib.ListN.{take, drop}
-use Rattle.lists.specs.Data.{extended, bytes_in}
+-- `encoding::append` meets its contract. The loop's invariant: the bytes still to come, after those so far, come to all. Assumes nothing.
+use Rattle.std.proofs.Common.{◌≡◌, drop}
+use Rattle.lists.specs.Data.{extended}
 use Rattle.encoding.proofs.append.Given as goal
 
-abbrev pub invariant-loop-i : goal.invariant-loop-i
-invariant-loop-i l = (l.i ≤ l.n) × (l.n ≤ 256) × (extended l.out (drop l.i (take l.n l.b.bytes)) ≡ extended l.initial.out (bytes_in l.b))
-
-abbrev pub decreases-loop-i : goal.decreases-loop-i
-decreases-loop-i l = l.n - l.i
+abbrev pub invariant-loop-byte : goal.invariant-loop-byte
+invariant-loop-byte l = extended l.out (drop l.byte-index l.counted) ≡ extended l.fn.d l.counted

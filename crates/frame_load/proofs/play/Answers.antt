@@ -1,13 +1,14 @@
 -- `frame_load::play` meets its contract. Assumes nothing.
-use Rattle.std.proofs.Common.{refl, add-one, arith, rules}
+use Rattle.std.proofs.Common.{refl, add-one, rules}
 use Rattle.frame_load.specs.Play.{play_many, buffer_many}
 use Rattle.frame_load.proofs.play.Goals as goal
 
-pub loop-i-init : goal.loop-i-init
+pub loop-turn-init : goal.loop-turn-init
 unfolding play_many buffer_many
-loop-i-init c = (omega arith, refl, refl, refl)
+loop-turn-init c = (refl, refl, refl)
 
-pub loop-i-preserved : goal.loop-i-preserved
+pub loop-turn-preserved : goal.loop-turn-preserved
 unfolding play_many buffer_many
-loop-i-preserved c =
-    (omega arith, search rules, rw (c.play_one-t.ensures.value, c.loop-i.invariant.1, c.loop-i.invariant.2, add-one), rw (c.play_one-t.ensures.reply_after, c.loop-i.invariant.1, c.loop-i.invariant.2, c.loop-i.invariant.3, add-one))
+loop-turn-preserved c =
+    let past = c.loop-turn.invariant in
+    (search rules, rw (c.play_one-after.ensures.value, past.0, past.1, add-one), rw (c.play_one-after.ensures.reply_after, past.0, past.1, past.2, add-one))

@@ -6,7 +6,7 @@ pub returns-clause-value : goal.returns-clause-value
 unfolding play_one buffer_one
 returns-clause-value c =
     let called = c.call-a.ensures in
-    rw (c.wrapping_add_u64-2.ensures.value, c.wrapping_add_u64.ensures.value, called.answer)
+    rw (c.from.ensures, called.answer)
 
 pub returns-clause-reply_after : goal.returns-clause-reply_after
 unfolding play_one buffer_one

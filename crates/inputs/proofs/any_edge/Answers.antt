@@ -11,14 +11,14 @@ use Rattle.inputs.proofs.any_edge.Goals.{Start}
 long : (c : Start) → length c.args.edged ≡ 16
 long c = search rules
 
-pub loop-i-init : goal.loop-i-init
-loop-i-init c = (omega arith, some_none _)
+pub loop-edge-init : goal.loop-edge-init
+loop-edge-init c = some_none _
 
-pub loop-i-preserved : goal.loop-i-preserved
-loop-i-preserved c =
-    (omega arith, rw c.loop-i.invariant.1 (some_turn (λ k. get_or c.args.edged k false) c.loop-i.i))
+pub loop-edge-preserved : goal.loop-edge-preserved
+loop-edge-preserved c =
+    rw c.loop-edge.invariant (some_turn (λ k. get_or c.args.edged k false) c.loop-edge.edge-index)
 
 pub returns : goal.returns
 returns c =
-    let e : c.loop-i.i ≡ 16 = omega arith in
-    c.loop-i.invariant.1 ∙ rw e (rw (long (goal.at.returns c).Start) at (sym (some_of c.args.edged)))
+    let e : c.loop-edge.edge-index ≡ 16 = omega arith in
+    c.loop-edge.invariant ∙ rw e (rw (long (goal.at.returns c).Start) at (sym (some_of c.args.edged)))

@@ -6,7 +6,7 @@ use mathlib.Core.Bool.{false}
 use mathlib.Core.Path.{◌≡◌, sym, ◌∙◌}
 use lib.ListN.{length, get_or}
 use Rattle.lists.proofs.DataLaws.{made_turn, made_all}
-use Rattle.lists.proofs.Done.{get_d_mapi, length-mapi}
+use Rattle.lists.proofs.Done.{get_or-mapi, length-mapi}
 use Rattle.model.specs.State.{fresh_line}
 use Rattle.model.specs.Samples.{is_edge, edges}
 use Rattle.inputs.proofs.edges_of.Goals as goal
@@ -24,7 +24,7 @@ unfolding edges
 loop-i-preserved c =
     let a = c.args in
     let t : c.loop-i.i < 16 = omega arith in
-    let edge = get_d_mapi (λ k x. is_edge x (get_or a.now k fresh_line)) a.was c.loop-i.i fresh_line false (rw (lines_long (goal.at.loop-i-preserved c).Start) t) in
+    let edge = get_or-mapi (λ k x. is_edge x (get_or a.now k fresh_line)) a.was c.loop-i.i fresh_line false (rw (lines_long (goal.at.loop-i-preserved c).Start) t) in
     made_turn false (edges a.was a.now) c.loop-i.found c.loop-i.i (long (goal.at.loop-i-preserved c).Start) c.loop-i.invariant (c.is_edge.ensures ∙ sym edge) t
 
 pub returns : goal.returns

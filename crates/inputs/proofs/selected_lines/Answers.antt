@@ -6,7 +6,7 @@ use mathlib.Core.Bool.{false}
 use mathlib.Core.Path.{◌≡◌, sym, ◌∙◌}
 use lib.ListN.{length, get_or}
 use Rattle.lists.proofs.DataLaws.{made_turn, made_all}
-use Rattle.lists.proofs.Done.{get_d_mapi, length-mapi}
+use Rattle.lists.proofs.Done.{get_or-mapi, length-mapi}
 use Rattle.model.specs.State.{fresh_line}
 use Rattle.model.specs.Samples.{selected_edge}
 use Rattle.inputs.specs.Passes.{selected_lines}
@@ -25,7 +25,7 @@ unfolding selected_lines
 loop-i-preserved c =
     let a = c.args in
     let t : c.loop-i.i < 16 = omega arith in
-    let edge = get_d_mapi (λ k x. selected_edge (get_or a.modes k 0) x (get_or a.now k fresh_line)) a.was c.loop-i.i fresh_line false (rw (lines_long (goal.at.loop-i-preserved c).Start) t) in
+    let edge = get_or-mapi (λ k x. selected_edge (get_or a.modes k 0) x (get_or a.now k fresh_line)) a.was c.loop-i.i fresh_line false (rw (lines_long (goal.at.loop-i-preserved c).Start) t) in
     made_turn false (selected_lines a.modes a.was a.now) c.loop-i.found c.loop-i.i (long (goal.at.loop-i-preserved c).Start) c.loop-i.invariant (c.is_selected.ensures ∙ sym edge) t
 
 pub returns : goal.returns

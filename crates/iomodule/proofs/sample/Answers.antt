@@ -1,15 +1,9 @@
 -- `iomodule::sample` meets its contract. Assumes nothing.
-use native.Mathlib.Omega.{arith}
-use mathlib.Core.Path.{refl, sym, ◌∙◌}
-use lib.ListN.{length}
+use Rattle.std.proofs.Common.{sym, ◌∙◌, length, arith}
 use borrow.Author.Tests.{ltb-false}
 use Rattle.model.specs.Calls.{sampled, sample_call}
 use Rattle.iomodule.proofs.Frames.{sample_room, handled_short, handled_answered}
 use Rattle.iomodule.proofs.sample.Goals as goal
-
-pub returns-then-is_short : goal.returns-then-is_short
-unfolding sample_call
-returns-then-is_short c = rw (sym c.is_short.ensures ∙ c.if-is_short.true) (record { answer = c.no_room.ensures; buffer = refl })
 
 pub reply_out-requires : goal.reply_out-requires
 reply_out-requires c =

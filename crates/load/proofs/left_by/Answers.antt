@@ -1,11 +1,17 @@
 -- `load::left_by` meets its contract. Assumes nothing.
+use Prim.Native.Nat.{ℕ, ◌+◌}
+use native.Mathlib.Omega.{arith}
+use mir.Val.{bool_byte}
+use mathlib.Core.Path.{◌≡◌}
+use mathlib.Core.Bool.{Bool, true, false, cond}
 use Rattle.load.specs.Play.{left_by}
 use Rattle.load.proofs.left_by.Goals as goal
 
-pub returns-then-o : goal.returns-then-o
-unfolding left_by
-returns-then-o c = rw c.if-o.true
+-- a `bool` as a number
+one_more : (n : ℕ) (on : Bool) → n + bool_byte on ≡ cond on (n + 1) n
+one_more n true = omega arith
+one_more n false = omega arith
 
 pub returns : goal.returns
 unfolding left_by
-returns c = rw c.if-o.false
+returns c = rw (c.from.ensures, c.from-2.ensures, c.from-3.ensures) (one_more _ c.args.o.on)

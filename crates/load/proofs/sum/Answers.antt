@@ -11,4 +11,4 @@ pub loop-i-preserved : goal.loop-i-preserved
 unfolding sum_of
 loop-i-preserved c =
     let at = c.loop-i in
-    (omega arith, rw (c.wrapping_add_u64-total.ensures.value, c.left_by.ensures, at.invariant.1, add-one))
+    (omega arith, rw (c.left_by-total.ensures, at.invariant.1, add-one))

@@ -1,15 +1,12 @@
 -- `modbus::read_coils` meets its contract. Assumes nothing.
-use mathlib.Core.Path.{refl}
+use Rattle.std.proofs.Common.{◌≡◌, ◌∙◌, sym, length, rules}
+use lib.ListN.{length-map}
+use Rattle.model.specs.declared.Output.{Output}
 use Rattle.model.specs.Outputs.{output_states}
-use Rattle.model.specs.Registers.{read_bits}
-use Rattle.model.specs.Modbus.{start_of, second_of}
-use Rattle.modbus_bodies.proofs.Laws.{read_law}
 use Rattle.modbus.proofs.read_coils.Goals as goal
 
 pub returns : goal.returns
-unfolding read_bits
 returns c =
-    let a = c.args in
-    let b = a.b.now in
-    rw (c.read_told.ensures, c.coils_told.ensures, c.word_from-n.ensures, c.word_from-a.ensures)
-    (read_law 2000 b a.m (read_bits (output_states a.m.outputs) (start_of b) (second_of b)) refl)
+    let os = c.args.os in
+    let long : length os ≡ 16 = search rules in
+    c.read_states.ensures (output_states os) (length-map os (λ (o : Output). o.on) ∙ long) (sym c.output_bits.ensures)

@@ -1,15 +1,14 @@
 -- `modbus::read_inputs` meets its contract. Assumes nothing.
-use mathlib.Core.Path.{refl}
+use Rattle.std.proofs.Common.{◌≡◌, ◌∙◌, sym, length, rules}
+use lib.ListN.{length-map}
+use Rattle.model.specs.declared.Line.{Line}
 use Rattle.model.specs.Samples.{input_states}
-use Rattle.model.specs.Registers.{read_bits}
-use Rattle.model.specs.Modbus.{start_of, second_of}
-use Rattle.modbus_bodies.proofs.Laws.{read_law}
+use Rattle.inputs.specs.Passes.{stable_bits}
 use Rattle.modbus.proofs.read_inputs.Goals as goal
 
 pub returns : goal.returns
-unfolding read_bits
+unfolding stable_bits
 returns c =
-    let a = c.args in
-    let b = a.b.now in
-    rw (c.read_told.ensures, c.inputs_told.ensures, c.word_from-n.ensures, c.word_from-a.ensures)
-    (read_law 2000 b a.m (read_bits (input_states a.m.inputs) (start_of b) (second_of b)) refl)
+    let x = c.args.x in
+    let long : length x.lines ≡ 16 = search rules in
+    c.read_states.ensures (input_states x) (length-map x.lines (λ (y : Line). y.stable) ∙ long) (sym c.stable_bits.ensures)

@@ -1,47 +1,38 @@
 -- `modbus::write_coils` meets its contract. Assumes nothing.
-use mathlib.Core.Path.{refl, sym, ◌∙◌}
-use Prim.Native.Nat.{◌+◌, ◌/◌, ◌≤◌}
-use lib.ListN.{length, take, drop}
-use native.Mathlib.Omega.{arith}
+use Rattle.std.proofs.Common.{◌≡◌, ◌∙◌, ℕ, refl, Err, ◌+◌, ◌/◌, ◌%◌, min, take, drop, rules, arith}
+use mathlib.Core.Bool.{cond}
+use Rattle.lists.proofs.ChunkLaws.{rest_whole}
+use Rattle.model.specs.Numbers.{number_of}
 use Rattle.model.specs.Refusals.{on_part}
 use Rattle.model.specs.Outputs.{act_on}
 use Rattle.model.specs.State.{with_outputs}
 use Rattle.model.specs.Registers.{write_coils}
 use Rattle.model.specs.Modbus.{start_of, second_of, count_wrong, bits_from, answering, coils_written}
-use Rattle.modbus_bodies.proofs.Laws.{refused_8}
+use Rattle.outcomes.specs.Parts.{outcome}
 use Rattle.modbus_bodies.specs.Parts.{head_of}
+use Rattle.modbus_bodies.proofs.Laws.{write_refused}
 use Rattle.modbus_bodies.proofs.Echoes.{head_law, written_law}
-use Rattle.lists.proofs.ChunkLaws.{rest_whole}
-use Rattle.modbus.proofs.Bodies.{counted}
+use Rattle.modbus.proofs.Bodies.{eighth}
 use Rattle.modbus.proofs.write_coils.Goals as goal
-use Rattle.modbus.proofs.write_coils.Goals.{Else-count_wrong}
 
--- a body that passes has its head
-long : (c : Else-count_wrong) → 5 ≤ length c.args.b.now
-long c = omega (arith, counted 1968 _ _ (sym c.count_wrong.ensures ∙ c.if-count_wrong.false))
-
-pub returns-then-count_wrong : goal.returns-then-count_wrong
+pub returns-in_err-count_refusal : goal.returns-in_err-count_refusal
 unfolding coils_written write_coils act_on
-returns-then-count_wrong c =
-    let a = c.args in
-    let b = a.b.now in
-    let q = write_coils a.m.reading a.m.settings.thermostats (start_of b) (bits_from 0 (second_of b) (drop 5 b)) a.m.outputs in
-    c.wrong_body.ensures
-    ∙ refused_8 a.m (answering (take 4 b) (on_part (with_outputs a.m) q)) (count_wrong 1968 ((second_of b + 7) / 8) b) (sym (rw c.word_from-n.ensures at c.count_wrong.ensures) ∙ c.if-count_wrong.true) refl
-
-pub slice_bounds-write_coils-count : goal.slice_bounds-write_coils-count
-slice_bounds-write_coils-count c = long (goal.at.slice_bounds-write_coils-count c).Else-count_wrong
-
-pub slice_bounds-write_coils-start : goal.slice_bounds-write_coils-start
-slice_bounds-write_coils-start c = omega (arith, long (goal.at.slice_bounds-write_coils-start c).Else-count_wrong)
+returns-in_err-count_refusal c =
+    let m = c.args.m in
+    let b = c.args.b.now in
+    let q = answering (take 4 b) (on_part (with_outputs m) (write_coils m.reading m.settings.thermostats (start_of b) (bits_from 0 (second_of b) (drop 5 b)) m.outputs)) in
+    let r : c.from_residual.result ≡ Err c.in_err-count_refusal.field-0.0 = search rules in
+    let e : number_of c.in_err-count_refusal.field-0.0 ≡ cond (count_wrong 1968 (c.from.result / 8 + min 1 (c.from.result % 8)) b) 8 0 = rw c.div_ceil-size.ensures at c.in_err-count_refusal.ensures.number in
+    rw r (write_refused m q (count_wrong 1968 ((second_of b + 7) / 8) b) _ refl (rw (eighth c.from.result, c.from.ensures, c.word_from-n.ensures) at e))
 
 pub returns : goal.returns
-unfolding coils_written write_coils act_on
+unfolding coils_written
 returns c =
-    let a = c.args in
-    let b = a.b.now in
-    let q = write_coils a.m.reading a.m.settings.thermostats (start_of b) (bits_from 0 (second_of b) (drop 5 b)) a.m.outputs in
-    c.echo.ensures
-    ∙ written_law a.m (on_part (with_outputs a.m) q) (head_of b) (take 4 b) (count_wrong 1968 ((second_of b + 7) / 8) b) c.write_coils.result (head_law b (omega (arith, long (goal.at.returns c).Else-count_wrong)))
+    let m = c.args.m in
+    let b = c.args.b.now in
+    let q = write_coils m.reading m.settings.thermostats (start_of b) (bits_from 0 (second_of b) (drop 5 b)) m.outputs in
+    let e : ◌≡◌ {A = ℕ} 0 (cond (count_wrong 1968 (c.from.result / 8 + min 1 (c.from.result % 8)) b) 8 0) = rw c.div_ceil-size.ensures at c.in_ok-count_refusal.ensures.number in
+    c.echo.ensures m
+    ∙ written_law m (on_part (with_outputs m) q) (head_of b) (take 4 b) (count_wrong 1968 ((second_of b + 7) / 8) b) (outcome m c.write_coils.result) (head_law b (omega (arith, c.in_ok-count_refusal.ensures.counted)))
     (rw (c.write_coils.ensures, c.word_from-a.ensures, c.word_from-n.ensures, rest_whole 5 b))
-    (sym (rw c.word_from-n.ensures at c.count_wrong.ensures) ∙ c.if-count_wrong.false)
+    (rw (eighth c.from.result, c.from.ensures, c.word_from-n.ensures) at e)

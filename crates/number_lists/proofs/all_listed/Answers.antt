@@ -6,7 +6,7 @@ use Rattle.number_lists.proofs.all_listed.Goals as goal
 
 pub returns-then-is_all : goal.returns-then-is_all
 unfolding all within
-returns-then-is_all c = rw (listed_all _ (sym c.is_all.ensures ∙ c.if-is_all.true))
+returns-then-is_all c = rw (listed_all _ (sym c.is_all.ensures ∙ c.if-is_all.true)) c.if-is_all.true
 
-pub returns : goal.returns
-returns c = rw (listed_own _ (sym c.is_all.ensures ∙ c.if-is_all.false)) c.all_numbers.ensures
+pub returns-else-is_all : goal.returns-else-is_all
+returns-else-is_all c = rw (listed_own _ (sym c.is_all.ensures ∙ c.if-is_all.false)) c.all_numbers.ensures

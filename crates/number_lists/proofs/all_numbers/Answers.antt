@@ -1,19 +1,13 @@
--- `number_lists::all_numbers` meets its contract. The loop's invariant: what is left decides as the whole does. Assumes nothing.
-use native.Mathlib.Omega.{arith}
-use mathlib.Core.Path.{sym, ◌∙◌}
-use lib.ListN.{drop_of_length-le}
-use Rattle.lists.proofs.Choices.{all_goes, all_stops, all_ends}
-use Rattle.lists.proofs.ChunkLaws.{rest_first}
-use Rattle.number_lists.specs.Items.{has_number}
+-- `number_lists::all_numbers` meets its contract. Assumes nothing.
+use borrow.Author.Tests.{tests}
+use Rattle.std.proofs.Common.{rules, ◌∙◌}
+use Rattle.std.proofs.lemmas.Iterator.Search.{all_from_yields_List}
+use Rattle.std.proofs.lemmas.Iterator.{YieldsList-from_slice}
+use Rattle.lists.proofs.Chains.{all_same}
+use Rattle.model.specs.Counters.{is_number}
 use Rattle.number_lists.proofs.all_numbers.Goals as goal
 
-pub returns-then-not-has_number : goal.returns-then-not-has_number
-returns-then-not-has_number c =
-    all_stops (has_number c.args.bits) _ _ _ (rest_first _ _ c.loop-i-test.true) (sym c.has_number.ensures ∙ c.if-not-has_number.true) ∙ c.loop-i.invariant.1
-
-pub loop-i-preserved : goal.loop-i-preserved
-loop-i-preserved c =
-    (omega arith, all_goes (has_number c.args.bits) _ _ _ (rest_first _ _ c.loop-i-test.true) (sym c.has_number.ensures ∙ c.if-not-has_number.false) ∙ c.loop-i.invariant.1)
-
 pub returns : goal.returns
-returns c = all_ends (has_number c.args.bits) _ (drop_of_length-le _ {i = c.loop-i.i} c.loop-i-test.false) ∙ c.loop-i.invariant.1
+returns c =
+    all_from_yields_List is_number _ _ _ c.all.ensures.ran (YieldsList-from_slice c.args.d.now cc) (λ x b q k. search (rules, tests))
+    ∙ all_same is_number c.args.d.now

@@ -12,10 +12,10 @@ never : (a : Bool) → false ≡ (a && false)
 never true = refl
 never false = refl
 
-pub returns-then-w-eq0 : goal.returns-then-w-eq0
+pub returns-then-w-ne0 : goal.returns-then-w-ne0
 unfolding items_in within
-returns-then-w-eq0 c = rw (c.if-w-eq0.true, div-zero) (never (eqb (c.args.n % 0) 0))
+returns-then-w-ne0 c = refl
 
-pub returns : goal.returns
+pub returns-else-w-ne0 : goal.returns-else-w-ne0
 unfolding items_in within
-returns c = refl
+returns-else-w-ne0 c = rw (c.if-w-ne0.false, div-zero) (never (eqb (c.args.n % 0) 0))

@@ -6,5 +6,5 @@ use Rattle.number_lists.proofs.listed_count.Goals as goal
 pub returns-then-is_all : goal.returns-then-is_all
 returns-then-is_all c = rw (listed_all _ (sym c.is_all.ensures ∙ c.if-is_all.true))
 
-pub returns : goal.returns
-returns c = rw (listed_own _ (sym c.is_all.ensures ∙ c.if-is_all.false))
+pub returns-else-is_all : goal.returns-else-is_all
+returns-else-is_all c = rw (listed_own _ (sym c.is_all.ensures ∙ c.if-is_all.false))

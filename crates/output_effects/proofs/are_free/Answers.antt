@@ -1,24 +1,14 @@
--- `output_effects::are_free` meets its contract. The loop's invariant: the entries left decide as the whole does. Assumes nothing.
-use mathlib.Core.Path.{sym, ◌∙◌}
+-- `output_effects::are_free` meets its contract. Assumes nothing.
+use borrow.Author.Tests.{tests}
+use Rattle.std.proofs.Common.{rules, ◌∙◌}
+use Rattle.std.proofs.lemmas.Iterator.Search.{all_from_yields_List}
+use Rattle.std.proofs.lemmas.Iterator.{YieldsList-from_slice}
+use Rattle.lists.proofs.Chains.{all_same}
 use Rattle.lists.specs.declared.Entry.{Entry}
-use Rattle.lists.specs.Entries.{entry}
-use Rattle.lists.proofs.Loops.{test_goes, test_stops, test_ends}
 use Rattle.model.specs.Temperature.{free_at}
 use Rattle.output_effects.proofs.are_free.Goals as goal
 
-pub returns-then-not-is_free : goal.returns-then-not-is_free
-returns-then-not-is_free c =
-    let s = c.args in
-    let bad = rw c.entry_at.ensures at (sym c.is_free.ensures ∙ c.if-not-is_free.true) in
-    test_stops (λ (e : Entry). free_at s.r s.hs e.number) _ c.count-n.ensures c.loop-i.i (entry 0 0) c.loop-i-test.true bad ∙ c.loop-i.invariant
-
-pub loop-i-preserved : goal.loop-i-preserved
-loop-i-preserved c =
-    let s = c.args in
-    let good = rw c.entry_at.ensures at (sym c.is_free.ensures ∙ c.if-not-is_free.false) in
-    test_goes (λ (e : Entry). free_at s.r s.hs e.number) _ c.count-n.ensures c.loop-i.i (entry 0 0) c.loop-i-test.true good ∙ c.loop-i.invariant
-
 pub returns : goal.returns
 returns c =
-    let s = c.args in
-    test_ends (λ (e : Entry). free_at s.r s.hs e.number) _ c.count-n.ensures c.loop-i.i c.loop-i-test.false ∙ c.loop-i.invariant
+    let test = (λ (e : Entry). free_at c.args.r c.args.hs e.number) in
+    all_from_yields_List test _ _ _ c.all.ensures.ran (YieldsList-from_slice c.args.es.now cc) (λ x b q k. search (rules, tests)) ∙ all_same test c.args.es.now

@@ -1,26 +1,19 @@
 -- `output_instructions::set_pulses` meets its contract: without a time there are no set bytes, and after it stand all the rest. Assumes nothing.
-use Prim.Native.Nat.{ℕ, ◌<◌}
-use native.Mathlib.Omega.{arith}
-use mathlib.Core.Path.{◌≡◌, refl}
-use mathlib.Core.Bool.{false}
-use mathlib.Core.List.{List, [], ◌∷◌}
-use lib.ListN.{length, drop}
+use Rattle.std.proofs.Common.{◌≡◌, refl, ℕ, List, [], ◌∷◌, length, arith}
 use Rattle.lists.specs.Tests.{within}
-use Rattle.lists.proofs.ChunkLaws.{rest_whole}
 use Rattle.model.specs.Refusals.{judged}
 use Rattle.model.specs.Counters.{items_of}
 use Rattle.model.specs.Outputs.{set_pulses, pulse_outputs, act_on}
 use Rattle.output_instructions.proofs.set_pulses.Goals as goal
 
-no-set-bytes : (d : List ℕ) → length d < 1 → items_of 1 (drop 1 d) ≡ false
-unfolding items_of within
-no-set-bytes [] h = refl
-no-set-bytes (b ∷ d) h = absurd (omega arith)
+empty : (d : List ℕ) → length d ≡ 0 → d ≡ []
+empty [] h = refl
+empty (b ∷ d) h = absurd (omega arith)
 
-pub returns-then-d-lt1 : goal.returns-then-d-lt1
-unfolding judged set_pulses pulse_outputs act_on
-returns-then-d-lt1 c = rw (c.bare.ensures, no-set-bytes c.args.d.now c.if-d-lt1.true)
+pub returns-in_default : goal.returns-in_default
+unfolding judged set_pulses pulse_outputs act_on items_of within
+returns-in_default c = rw (empty c.args.d.now c.in_default.ensures.cases)
 
 pub returns : goal.returns
 unfolding set_pulses
-returns c = rw (c.pulse_listed.ensures, rest_whole 1 c.args.d.now)
+returns c = rw (c.pulse_listed.ensures, c.in-Some.ensures.cases.0)

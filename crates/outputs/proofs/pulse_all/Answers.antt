@@ -13,16 +13,16 @@ use Rattle.outputs.proofs.pulse_all.Goals.{Start}
 long : (c : Start) → length c.args.a ≡ 16
 long c = search rules
 
-pub loop-i-init : goal.loop-i-init
-loop-i-init c = (omega arith, sym (done_none _ _))
+pub loop-o-init : goal.loop-o-init
+loop-o-init c = sym (done_none _ _)
 
-pub loop-i-preserved : goal.loop-i-preserved
-loop-i-preserved c =
+pub loop-o-preserved : goal.loop-o-preserved
+loop-o-preserved c =
     let a = c.args.a in
-    let h : c.loop-i.i < length a = rw (long (goal.at.loop-i-preserved c).Start) (omega arith) in
-    (omega arith, rw (c.pulse.ensures, c.loop-i.invariant.1) (done_turn _ _ a fresh_output h))
+    let h : c.loop-o.o-index < length a = rw (long (goal.at.loop-o-preserved c).Start) (omega arith) in
+    rw (c.pulse.ensures, c.loop-o.invariant) (done_turn (λ k o. pulsed o) c.loop-o.o-index a fresh_output h)
 
 pub returns : goal.returns
 returns c =
-    let e : c.loop-i.i ≡ 16 = omega arith in
-    c.loop-i.invariant.1 ∙ rw e (done_map pulsed 16 c.args.a (long (goal.at.returns c).Start))
+    let e : c.loop-o.o-index ≡ 16 = omega arith in
+    c.loop-o.invariant ∙ rw e (done_map pulsed 16 c.args.a (long (goal.at.returns c).Start))

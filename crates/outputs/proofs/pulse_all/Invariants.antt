@@ -1,12 +1,8 @@
--- `outputs::pulse_all` meets its contract. Assumes nothing.
-use Prim.Native.Nat.{◌-◌, ◌≤◌}
+-- `outputs::pulse_all` meets its contract. The loop's invariant: the outputs so far have pulsed. Assumes nothing.
 use mathlib.Core.Path.{◌≡◌}
 use Rattle.lists.specs.Mapi.{done}
 use Rattle.model.specs.Outputs.{pulsed}
 use Rattle.outputs.proofs.pulse_all.Given as goal
 
-abbrev pub invariant-loop-i : goal.invariant-loop-i
-invariant-loop-i l = (l.i ≤ 16) × (l.next ≡ done (λ k o. pulsed o) l.i l.initial.next)
-
-abbrev pub decreases-loop-i : goal.decreases-loop-i
-decreases-loop-i l = 16 - l.i
+abbrev pub invariant-loop-o : goal.invariant-loop-o
+invariant-loop-o l = l.o-items ≡ done (λ k o. pulsed o) l.o-index l.fn.a

@@ -7,4 +7,4 @@ use Rattle.player.proofs.play_temperature.Goals as goal
 
 pub returns : goal.returns
 unfolding temperature_call
-returns c = rw (to_z-of_z c.ranges.tenths) at (ap (λ (a : Answer). a.after) c.temperature-a.ensures)
+returns c = rw (to_z-of_z c.ranges.tenths) at (ap (λ (a : Answer). a.after) c.temperature.ensures)

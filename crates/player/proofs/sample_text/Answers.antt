@@ -4,10 +4,10 @@ use Rattle.digits.specs.Writing.{padded}
 use Rattle.player.proofs.Answers.{notice_printed, notice_none}
 use Rattle.player.proofs.sample_text.Goals as goal
 
-pub returns-then-len-eq0 : goal.returns-then-len-eq0
+pub returns-then-a-eq0 : goal.returns-then-a-eq0
 unfolding padded
-returns-then-len-eq0 c = notice_none c.sample-a.ensures c.if-len-eq0.true
+returns-then-a-eq0 c = notice_none c.sample-a.ensures c.if-a-eq0.true
 
 pub returns : goal.returns
 returns c =
-    notice_printed c.sample-a.ensures (search rules) c.if-len-eq0.false c.answer_text-text.ensures
+    notice_printed c.sample-a.ensures (search rules) c.if-a-eq0.false c.answer_text-text.ensures

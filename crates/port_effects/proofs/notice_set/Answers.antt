@@ -10,8 +10,6 @@ unfolding set_notice
 returns-then-at-eq1 c =
     rw (eq-eqb _ 1 (sym c.at.ensures ∙ c.if-at-eq1.true), c.mask_given.ensures)
 
-pub returns : goal.returns
+pub returns-else-at-eq1 : goal.returns-else-at-eq1
 unfolding set_notice
-returns c =
-    let d = c.args.d.now in
-    rw (ne_eqb (get_or d 0 0) 1 (λ e. c.if-at-eq1.false (c.at.ensures ∙ e)))
+returns-else-at-eq1 c = rw (ne_eqb (get_or c.args.d.now 0 0) 1 (λ e. c.if-at-eq1.false (c.at.ensures ∙ e)))

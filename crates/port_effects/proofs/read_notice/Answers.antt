@@ -1,15 +1,18 @@
 -- `port_effects::read_notice` meets its contract. Assumes nothing.
-use borrow.Author.Tests.{eq-eqb, ne_eqb}
-use Rattle.model.specs.Refusals.{judged}
-use Rattle.model.specs.Notice.{read_notice}
+use Rattle.std.proofs.Common.{◌≡◌, Err, rules}
 use Rattle.lists.proofs.DataLaws.{byte_and_word}
+use Rattle.model.specs.Refusals.{refusal_of}
+use Rattle.model.specs.Notice.{read_notice}
+use Rattle.encoding.proofs.Telling.{told_refused, told_answered}
 use Rattle.port_effects.proofs.read_notice.Goals as goal
 
-pub returns-then-d-ne0 : goal.returns-then-d-ne0
-unfolding judged read_notice
-returns-then-d-ne0 c = rw (ne_eqb _ _ c.if-d-ne0.true) c.refuse.ensures
+pub returns-in_err-refused_if : goal.returns-in_err-refused_if
+unfolding read_notice refusal_of
+returns-in_err-refused_if c =
+    let e : c.from_residual.result ≡ Err c.in_err-refused_if.field-0.0 = search rules in
+    rw e (told_refused (read_notice c.args.d.now c.args.n) _ (rw c.is_empty.ensures at c.in_err-refused_if.ensures))
 
 pub returns : goal.returns
-unfolding judged read_notice
+unfolding read_notice refusal_of
 returns c =
-    rw (eq-eqb _ _ c.if-d-ne0.false, c.tell.ensures, c.push16.ensures, c.push.ensures, c.empty.ensures, byte_and_word)
+    told_answered (read_notice c.args.d.now c.args.n) _ (rw c.is_empty.ensures at c.in_ok-refused_if.ensures) (rw (c.push16.ensures, c.push.ensures, c.empty.ensures) (byte_and_word _ _))

@@ -8,6 +8,6 @@ pub returns-then-e-eq1 : goal.returns-then-e-eq1
 unfolding set_port_byte set_port_field
 returns-then-e-eq1 c = rw (eq-eqb _ 1 c.if-e-eq1.true, c.byte-v.ensures)
 
-pub returns : goal.returns
+pub returns-else-e-eq1 : goal.returns-else-e-eq1
 unfolding set_port_byte set_port_field
-returns c = rw (ne_eqb _ 1 c.if-e-eq1.false, c.byte-v.ensures)
+returns-else-e-eq1 c = rw (ne_eqb _ 1 c.if-e-eq1.false, c.byte-v.ensures)

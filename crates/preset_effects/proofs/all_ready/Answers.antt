@@ -1,20 +1,13 @@
--- `preset_effects::all_ready` meets its contract. The loop's invariant: the bytes left decide. Assumes nothing.
-use native.Mathlib.Omega.{arith}
-use mathlib.Core.Path.{sym, ◌∙◌}
-use lib.ListN.{drop_of_length-le}
-use Rattle.lists.proofs.Choices.{all_goes, all_stops, all_ends}
-use Rattle.lists.proofs.ChunkLaws.{rest_first}
+-- `preset_effects::all_ready` meets its contract. Assumes nothing.
+use borrow.Author.Tests.{tests}
+use Rattle.std.proofs.Common.{rules, ◌∙◌}
+use Rattle.std.proofs.lemmas.Iterator.Search.{all_from_yields_List}
+use Rattle.std.proofs.lemmas.Iterator.{YieldsList-from_slice}
+use Rattle.lists.proofs.Chains.{all_same}
+use Rattle.model.specs.Outputs.{preset_ready}
 use Rattle.preset_effects.proofs.all_ready.Goals as goal
 
-pub loop-i-preserved : goal.loop-i-preserved
-loop-i-preserved c =
-    let goes = sym c.is_ready.ensures ∙ c.if-is_ready.true in
-    (omega arith, all_goes _ _ _ _ (rest_first _ _ c.loop-i-test.true) goes ∙ c.loop-i.invariant.1)
-
-pub returns-else-is_ready : goal.returns-else-is_ready
-returns-else-is_ready c =
-    let stops = sym c.is_ready.ensures ∙ c.if-is_ready.false in
-    all_stops _ _ _ _ (rest_first _ _ c.loop-i-test.true) stops ∙ c.loop-i.invariant.1
-
 pub returns : goal.returns
-returns c = all_ends _ _ (drop_of_length-le _ {i = c.loop-i.i} c.loop-i-test.false) ∙ c.loop-i.invariant.1
+returns c =
+    let test = preset_ready c.args.ps in
+    all_from_yields_List test _ _ _ c.all.ensures.ran (YieldsList-from_slice c.args.d.now cc) (λ x b q k. search (rules, tests)) ∙ all_same test c.args.d.now

@@ -1,21 +1,14 @@
--- `preset_effects::all_settable` meets its contract. The loop's invariant: the bytes left decide. Assumes nothing.
-use native.Mathlib.Omega.{arith}
-use mathlib.Core.Path.{sym, ◌∙◌}
-use Rattle.lists.proofs.Choices.{all_goes, all_stops, all_ends}
-use Rattle.lists.proofs.ChunkLaws.{triples_cons, triples_none}
+-- `preset_effects::all_settable` meets its contract. Assumes nothing.
+use borrow.Author.Tests.{tests}
+use Rattle.std.proofs.Common.{rules, ◌∙◌}
+use Rattle.std.proofs.lemmas.Iterator.Search.{all_from_yields_List}
+use Rattle.lists.specs.Chunks.{chunks}
+use Rattle.lists.proofs.Chains.{all_same}
+use Rattle.model.specs.Outputs.{preset_settable}
+use Rattle.preset_effects.proofs.Triples.{yields_triples}
 use Rattle.preset_effects.proofs.all_settable.Goals as goal
 
-pub loop-i-preserved : goal.loop-i-preserved
-loop-i-preserved c =
-    let goes = sym c.is_settable.ensures ∙ c.if-is_settable.true in
-    let first = triples_cons c.args.d.now c.loop-i.i (omega arith) in
-    (omega arith, all_goes _ _ _ _ first goes ∙ c.loop-i.invariant.1)
-
-pub returns-else-is_settable : goal.returns-else-is_settable
-returns-else-is_settable c =
-    let stops = sym c.is_settable.ensures ∙ c.if-is_settable.false in
-    let first = triples_cons c.args.d.now c.loop-i.i (omega arith) in
-    all_stops _ _ _ _ first stops ∙ c.loop-i.invariant.1
-
 pub returns : goal.returns
-returns c = all_ends _ _ (triples_none c.args.d.now c.loop-i.i (omega arith)) ∙ c.loop-i.invariant.1
+returns c =
+    let d = c.args.d.now in
+    all_from_yields_List preset_settable _ _ _ c.all.ensures.ran (yields_triples _ d c.chunks_exact.ensures.size c.chunks_exact.ensures.rest) (λ x b q k. search (rules, tests)) ∙ all_same preset_settable (chunks 3 d)

@@ -6,4 +6,4 @@ use Rattle.preset_effects.proofs.is_settable.Goals as goal
 
 pub returns : goal.returns
 unfolding preset_settable
-returns c = rw (c.is_number.ensures, ← byte_within c.args.time (omega arith))
+returns c = rw (c.is_number.ensures, c.at.ensures, c.at-kind.ensures, byte_within c.at-has_time.result (omega arith), c.at-has_time.ensures)

@@ -1,20 +1,21 @@
 -- `replies::ack_of` meets its contract. Assumes nothing.
-use borrow.Author.Tests.{eq-eqb, ne_eqb}
+use Rattle.std.proofs.Common.{arith, ne_eqb}
 use Rattle.model.specs.Refusals.{ack_of}
 use Rattle.replies.proofs.ack_of.Goals as goal
 
-pub returns-then-n-eq0 : goal.returns-then-n-eq0
+pub returns-in-0 : goal.returns-in-0
 unfolding ack_of
-returns-then-n-eq0 c = rw (eq-eqb _ _ c.if-n-eq0.true)
+returns-in-0 c = rw c.in-0.is
 
-pub returns-then-n-eq7 : goal.returns-then-n-eq7
+pub returns-in-7 : goal.returns-in-7
 unfolding ack_of
-returns-then-n-eq7 c = rw (ne_eqb _ _ c.if-n-eq0.false, eq-eqb _ _ c.if-n-eq7.true)
+returns-in-7 c = rw c.in-7.is
 
-pub returns-then-n-eq10 : goal.returns-then-n-eq10
+pub returns-in-10 : goal.returns-in-10
 unfolding ack_of
-returns-then-n-eq10 c = rw (ne_eqb _ _ c.if-n-eq0.false, ne_eqb _ _ c.if-n-eq7.false, eq-eqb _ _ c.if-n-eq10.true)
+returns-in-10 c = rw c.in-10.is
 
-pub returns-else-n-eq10 : goal.returns-else-n-eq10
+pub returns-in_default : goal.returns-in_default
 unfolding ack_of
-returns-else-n-eq10 c = rw (ne_eqb _ _ c.if-n-eq0.false, ne_eqb _ _ c.if-n-eq7.false, ne_eqb _ _ c.if-n-eq10.false)
+returns-in_default c =
+    rw (ne_eqb c.args.n 0 (omega arith), ne_eqb c.args.n 7 (omega arith), ne_eqb c.args.n 10 (omega arith))

@@ -1,24 +1,22 @@
 -- `replies::exception_of` meets its contract. Assumes nothing.
-use borrow.Author.Tests.{eq-eqb, ne_eqb}
+use Rattle.std.proofs.Common.{arith, ne_eqb}
+use mathlib.Core.Logic.{inl, inr}
 use Rattle.model.specs.Refusals.{exception_of}
 use Rattle.replies.proofs.exception_of.Goals as goal
 
-pub returns-then-n-eq7 : goal.returns-then-n-eq7
+pub returns-in-7 : goal.returns-in-7
 unfolding exception_of
-returns-then-n-eq7 c = rw (eq-eqb _ _ c.if-n-eq7.true)
+returns-in-7 c = rw c.in-7.is
 
-pub returns-then-n-eq9 : goal.returns-then-n-eq9
+pub returns-in-9 : goal.returns-in-9
 unfolding exception_of
-returns-then-n-eq9 c = rw (ne_eqb _ _ c.if-n-eq7.false, eq-eqb _ _ c.if-n-eq9.true)
+returns-in-9 c = rw c.in-9.is
 
-pub returns-then-n-eq10 : goal.returns-then-n-eq10
+pub returns-in-10 : goal.returns-in-10
 unfolding exception_of
-returns-then-n-eq10 c = rw (ne_eqb _ _ c.if-n-eq7.false, ne_eqb _ _ c.if-n-eq9.false, eq-eqb _ _ c.if-n-eq10.true)
+returns-in-10 c = elim c.in-10.is [ inl e ↦ rw e | inr e ↦ rw e ]
 
-pub returns-then-n-eq12 : goal.returns-then-n-eq12
+pub returns-in_default : goal.returns-in_default
 unfolding exception_of
-returns-then-n-eq12 c = rw (ne_eqb _ _ c.if-n-eq7.false, ne_eqb _ _ c.if-n-eq9.false, ne_eqb _ _ c.if-n-eq10.false, eq-eqb _ _ c.if-n-eq12.true)
-
-pub returns-else-n-eq12 : goal.returns-else-n-eq12
-unfolding exception_of
-returns-else-n-eq12 c = rw (ne_eqb _ _ c.if-n-eq7.false, ne_eqb _ _ c.if-n-eq9.false, ne_eqb _ _ c.if-n-eq10.false, ne_eqb _ _ c.if-n-eq12.false)
+returns-in_default c =
+    rw (ne_eqb c.args.n 7 (omega arith), ne_eqb c.args.n 9 (omega arith), ne_eqb c.args.n 10 (grind arith), ne_eqb c.args.n 12 (grind arith))

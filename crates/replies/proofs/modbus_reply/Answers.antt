@@ -7,12 +7,12 @@ use borrow.Author.Rules.{rules}
 use Rattle.replies.proofs.modbus_reply.Goals as goal
 use Rattle.replies.proofs.modbus_reply.Goals.{Start}
 
-full : (c : Start) → length c.args.body.bytes ≡ 256
-full c = field_length c.args.body.bytes (search rules)
+full : (c : Start) → length c.args.body.items ≡ 256
+full c = field_length c.args.body.items (search rules)
 
 pub returns : goal.returns
 returns c =
     let a = c.args in
     let stored = rw c.modbus_head.ensures at c.place-bytes.ensures in
     rw (c.high_byte.ensures, c.low_byte.ensures, c.crc16-crc.ensures)
-    (modbus_stored a.address a.function c.limited-n.result a.body (full (goal.at.returns c).Start) c.limited-n.ensures c.place-bytes.result stored)
+    (modbus_stored a.address a.function c.min-n.result a.body (full (goal.at.returns c).Start) c.min-n.ensures c.place-bytes.result stored)

@@ -8,6 +8,6 @@ pub returns-then-e-eq1 : goal.returns-then-e-eq1
 unfolding port_settable within
 returns-then-e-eq1 c = rw (eq-eqb _ 1 c.if-e-eq1.true)
 
-pub returns : goal.returns
+pub returns-else-e-eq1 : goal.returns-else-e-eq1
 unfolding port_settable within
-returns c = rw (ne_eqb _ 1 c.if-e-eq1.false)
+returns-else-e-eq1 c = rw (ne_eqb _ 1 c.if-e-eq1.false)

@@ -1,40 +1,45 @@
 -- `rules::named_twice` meets its contract. The loop's invariant: a number stands twice among those left exactly where one does among all. Assumes nothing.
-use mathlib.Core.Bool.{Bool, true, false, cond, ◌||◌}
-use mathlib.Core.List.{List, ◌∷◌}
-use mathlib.Core.Path.{◌≡◌, refl, sym, ◌∙◌}
-use lib.Dec.{eqb}
+use borrow.Author.Tests.{tests}
+use Rattle.std.proofs.Common.{◌≡◌, refl, sym, ◌∙◌, rules, arith, List, [], ◌∷◌, length, Bool, true, false, nat_eq}
+use Rattle.std.proofs.lemmas.Iterator.Search.{any_from_yields_List}
+use Rattle.std.proofs.lemmas.Iterator.{YieldsList-from_slice}
+use Rattle.lists.proofs.Chains.{any_same}
 use Rattle.lists.specs.Tests.{any, twice}
 use Rattle.lists.specs.declared.Entry.{Entry}
-use Rattle.lists.specs.Entries.{entry}
-use Rattle.lists.proofs.Loops.{find_goes, find_stops, find_ends}
 use Rattle.model.specs.Counters.{named_twice}
 use Rattle.rules.proofs.named_twice.Goals as goal
 
--- the number of an entry stands behind it again
-abbrev again_behind : Entry → List Entry → Bool
-again_behind e l = any (λ (f : Entry). eqb e.number f.number) l
+-- two entries have one number
+abbrev one_number : Entry → Entry → Bool
+one_number e f = nat_eq e.number f.number
 
-by_first : (e : Entry) (l : List Entry) → named_twice (e ∷ l) ≡ cond (again_behind e l) true (named_twice l)
+-- by whether the first number stands again behind it
+stands_again : (e : Entry) (l : List Entry) → any (one_number e) l ≡ true → true ≡ named_twice (e ∷ l)
 unfolding named_twice twice
-by_first e l = go (again_behind e l)
-  where
-    go : (b : Bool) → (b || named_twice l) ≡ cond b true (named_twice l)
-    go true = refl
-    go false = refl
+stands_again e l h = rw h
 
-pub returns-then-named_from : goal.returns-then-named_from
+stands_once : (e : Entry) (l : List Entry) → any (one_number e) l ≡ false → named_twice l ≡ named_twice (e ∷ l)
 unfolding named_twice twice
-returns-then-named_from c =
-    let again = rw c.entry_at-e.ensures at (sym c.named_from.ensures ∙ c.if-named_from.true) in
-    find_stops named_twice again_behind by_first _ c.count-n.ensures c.loop-i.i (entry 0 0) c.loop-i-test.true again ∙ c.loop-i.invariant
+stands_once e l h = rw h
 
-pub loop-i-preserved : goal.loop-i-preserved
+none_left : (l : List Entry) → length l ≡ 0 → false ≡ named_twice l
 unfolding named_twice twice
-loop-i-preserved c =
-    let once = rw c.entry_at-e.ensures at (sym c.named_from.ensures ∙ c.if-named_from.false) in
-    find_goes named_twice again_behind by_first _ c.count-n.ensures c.loop-i.i (entry 0 0) c.loop-i-test.true once ∙ c.loop-i.invariant
+none_left [] h = refl
+none_left (e ∷ l) h = absurd (omega arith)
+
+pub returns-then-any : goal.returns-then-any
+returns-then-any c =
+    let e = c.in-Some.e.now in
+    let l = c.in-Some.behind.now in
+    let looked = any_from_yields_List (one_number e) _ _ _ c.any.ensures.ran (YieldsList-from_slice l cc) (λ x b q k. search (rules, tests)) ∙ any_same (one_number e) l in
+    stands_again e l (sym looked ∙ c.if-any.true) ∙ rw c.in-Some.ensures.cases.0 at c.loop-e.invariant
+
+pub loop-e-preserved : goal.loop-e-preserved
+loop-e-preserved c =
+    let e = c.in-Some.e.now in
+    let l = c.in-Some.behind.now in
+    let looked = any_from_yields_List (one_number e) _ _ _ c.any.ensures.ran (YieldsList-from_slice l cc) (λ x b q k. search (rules, tests)) ∙ any_same (one_number e) l in
+    stands_once e l (sym looked ∙ c.if-any.false) ∙ rw c.in-Some.ensures.cases.0 at c.loop-e.invariant
 
 pub returns : goal.returns
-unfolding named_twice twice
-returns c =
-    find_ends named_twice again_behind by_first _ c.count-n.ensures c.loop-i.i c.loop-i-test.false ∙ c.loop-i.invariant
+returns c = none_left c.loop-e.rest.now c.in_default.ensures.cases ∙ c.loop-e.invariant

@@ -1,17 +1,12 @@
--- `script::blanks` meets its contract. The loop's invariant: those passed and those to come are all. Assumes nothing.
-use native.Mathlib.Omega.{arith}
-use mathlib.Core.Path.{sym, ◌∙◌}
+-- `script::blanks` meets its contract. Assumes nothing.
+use Rattle.std.proofs.Common.{rules, tests, not, ◌∙◌}
+use Rattle.std.proofs.lemmas.Iterator.{YieldsList-from_slice}
+use Rattle.std.proofs.lemmas.Iterator.Search.{position_from_yields_List}
 use Rattle.script.specs.Words.{blank}
-use Rattle.script.proofs.Leading.{lead_goes, lead_stops, lead_ends}
+use Rattle.script.proofs.Leading.{place_law, twice}
 use Rattle.script.proofs.blanks.Goals as goal
 
-pub returns-then-not-is_blank : goal.returns-then-not-is_blank
-returns-then-not-is_blank c =
-    lead_stops blank _ _ c.loop-i-test.true (sym c.is_blank.ensures ∙ c.if-not-is_blank.true) ∙ c.loop-i.invariant.1
-
-pub loop-i-preserved : goal.loop-i-preserved
-loop-i-preserved c =
-    (omega arith, lead_goes blank _ _ c.loop-i-test.true (sym c.is_blank.ensures ∙ c.if-not-is_blank.false) ∙ c.loop-i.invariant.1)
-
 pub returns : goal.returns
-returns c = lead_ends blank _ _ c.loop-i-test.false ∙ c.loop-i.invariant.1
+returns c =
+    let s = c.args.s.now in
+    c.unwrap_or.ensures ∙ place_law blank (λ b. not (blank b)) s (λ b. twice (blank b)) (position_from_yields_List (λ b. not (blank b)) _ _ c.position.result c.position.ensures.ran (YieldsList-from_slice s cc) (λ x b q k. search (rules, tests)))

@@ -6,8 +6,8 @@ use Rattle.script.proofs.Leading.{leading_le}
 use Rattle.script.proofs.body_of.Goals as goal
 
 pub slice_bounds-result-end : goal.slice_bounds-result-end
-slice_bounds-result-end c = rw length-take (omega (arith, c.plains-n.ensures, leading_le plain c.without_cr-s.result.now))
+slice_bounds-result-end c = rw length-take (omega (arith, c.stop_at.ensures, leading_le plain c.without_cr-s.result.now))
 
 pub returns : goal.returns
 unfolding body
-returns c = rw (c.plains-n.ensures, c.without_cr-s.ensures)
+returns c = rw (c.stop_at.ensures, c.without_cr-s.ensures)

@@ -1,30 +1,36 @@
 -- `script::called_of` meets its contract. Assumes nothing.
-use borrow.Author.Tests.{ne_eqb}
-use native.Mathlib.Omega.{arith}
-use Rattle.script.specs.Lines.{called}
+use mathlib.Core.Path.{refl, ap, ◌∙◌}
+use Rattle.script.proofs.Sames.{same_is}
+use Rattle.script.specs.Results.{parsed_of}
+use Rattle.script.proofs.Calls.{failed, called_sample, called_toggle, called_temperature, called_spinel, called_modbus, called_other}
 use Rattle.script.proofs.called_of.Goals as goal
 
-pub returns-in-1 : goal.returns-in-1
-unfolding called
-returns-in-1 c = rw c.in-1.is c.sample_of.ensures
+pub returns-then-eq : goal.returns-then-eq
+returns-then-eq c = c.sample_of.ensures ∙ called_sample _ _ (same_is _ c.as_slice.ensures c.if-eq.ensures)
 
-pub returns-in-7 : goal.returns-in-7
-unfolding called
-returns-in-7 c = rw c.in-7.is c.toggle_of.ensures
+pub returns-then-eq-2 : goal.returns-then-eq-2
+returns-then-eq-2 c =
+    c.toggle_of.ensures ∙ called_toggle _ _ (same_is _ c.as_slice.ensures c.if-eq.ensures) (same_is _ c.as_slice-2.ensures c.if-eq-2.ensures)
 
-pub returns-in-2 : goal.returns-in-2
-unfolding called
-returns-in-2 c = rw c.in-2.is c.temperature_of.ensures
+pub returns-then-eq-3 : goal.returns-then-eq-3
+returns-then-eq-3 c =
+    c.temperature_of.ensures ∙ called_temperature _ _ (same_is _ c.as_slice.ensures c.if-eq.ensures) (same_is _ c.as_slice-2.ensures c.if-eq-2.ensures) (same_is _ c.as_slice-3.ensures c.if-eq-3.ensures)
 
-pub returns-in-4 : goal.returns-in-4
-unfolding called
-returns-in-4 c = rw c.in-4.is c.frame_of.ensures
+pub returns-in_err-frame : goal.returns-in_err-frame
+returns-in_err-frame c =
+    ap parsed_of (failed _ c.from_residual.ensures refl) ∙ c.in_err-frame.ensures 4 ∙ called_spinel _ _ (same_is _ c.as_slice.ensures c.if-eq.ensures) (same_is _ c.as_slice-2.ensures c.if-eq-2.ensures) (same_is _ c.as_slice-3.ensures c.if-eq-3.ensures) (same_is _ c.as_slice-4.ensures c.if-eq-4.ensures)
 
-pub returns-in-5 : goal.returns-in-5
-unfolding called
-returns-in-5 c = rw c.in-5.is c.frame_of-in-5.ensures
+pub returns-then-eq-4 : goal.returns-then-eq-4
+returns-then-eq-4 c =
+    c.in_ok-frame.ensures 4 ∙ called_spinel _ _ (same_is _ c.as_slice.ensures c.if-eq.ensures) (same_is _ c.as_slice-2.ensures c.if-eq-2.ensures) (same_is _ c.as_slice-3.ensures c.if-eq-3.ensures) (same_is _ c.as_slice-4.ensures c.if-eq-4.ensures)
 
-pub returns-in_default : goal.returns-in_default
-unfolding called
-returns-in_default c =
-    rw (c.wrong_of.ensures, ne_eqb c.args.kind 1 (omega arith), ne_eqb c.args.kind 7 (omega arith), ne_eqb c.args.kind 2 (omega arith), ne_eqb c.args.kind 4 (omega arith), ne_eqb c.args.kind 5 (omega arith))
+pub returns-in_err-frame-2 : goal.returns-in_err-frame-2
+returns-in_err-frame-2 c =
+    ap parsed_of (failed _ c.from_residual-in_err-frame-2.ensures refl) ∙ c.in_err-frame-2.ensures 5 ∙ called_modbus _ _ (same_is _ c.as_slice.ensures c.if-eq.ensures) (same_is _ c.as_slice-2.ensures c.if-eq-2.ensures) (same_is _ c.as_slice-3.ensures c.if-eq-3.ensures) (same_is _ c.as_slice-4.ensures c.if-eq-4.ensures) (same_is _ c.as_slice-5.ensures c.if-eq-5.ensures)
+
+pub returns-then-eq-5 : goal.returns-then-eq-5
+returns-then-eq-5 c =
+    c.in_ok-frame-2.ensures 5 ∙ called_modbus _ _ (same_is _ c.as_slice.ensures c.if-eq.ensures) (same_is _ c.as_slice-2.ensures c.if-eq-2.ensures) (same_is _ c.as_slice-3.ensures c.if-eq-3.ensures) (same_is _ c.as_slice-4.ensures c.if-eq-4.ensures) (same_is _ c.as_slice-5.ensures c.if-eq-5.ensures)
+
+pub returns : goal.returns
+returns c = called_other _ _ (same_is _ c.as_slice.ensures c.if-eq.ensures) (same_is _ c.as_slice-2.ensures c.if-eq-2.ensures) (same_is _ c.as_slice-3.ensures c.if-eq-3.ensures) (same_is _ c.as_slice-4.ensures c.if-eq-4.ensures) (same_is _ c.as_slice-5.ensures c.if-eq-5.ensures)

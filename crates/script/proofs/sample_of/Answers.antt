@@ -1,24 +1,36 @@
 -- `script::sample_of` meets its contract. Assumes nothing.
-use mathlib.Core.Path.{sym, ◌∙◌}
-use Rattle.script.proofs.Calls.{sample_none, sample_one, sample_two, sample_many}
+use native.Mathlib.Omega.{arith}
+use mathlib.Core.Path.{refl, ap, ◌∙◌}
+use Rattle.script.specs.Results.{parsed_of}
+use Rattle.script.proofs.Calls.{failed, no_word, sampled_first, sampled_times, sampled_good, sample_one, sample_two}
 use Rattle.script.proofs.sample_of.Goals as goal
 
-pub returns-then-is_over : goal.returns-then-is_over
-returns-then-is_over c = rw c.wrong_of.ensures (sample_none _ (sym c.is_over.ensures ∙ c.if-is_over.true))
+pub returns-in_err-bits : goal.returns-in_err-bits
+returns-in_err-bits c =
+    let bad = c.in_err-bits.ensures in
+    ap parsed_of (failed _ c.from_residual.ensures bad.0) ∙ sampled_first 1 0 1 _ bad.1 ∙ sample_one c.in-Some.ensures.cases c.in_default-next_word.ensures.cases
 
-pub returns-then-is_over-2 : goal.returns-then-is_over-2
-returns-then-is_over-2 c =
-    let one = rw c.rest_of-t.ensures at (sym c.is_over-2.ensures ∙ c.if-is_over-2.true) in
-    rw (c.sampled_of.ensures, c.hex_of-b.ensures, c.first_word.ensures) (sample_one _ (sym c.is_over.ensures ∙ c.if-is_over.false) one)
+pub returns-in_default-next_word : goal.returns-in_default-next_word
+returns-in_default-next_word c =
+    let bits = c.in_ok-bits.ensures in
+    sampled_good 1 0 1 bits.0 bits.1 refl (omega arith) refl (omega arith) (omega arith) ∙ sample_one c.in-Some.ensures.cases c.in_default-next_word.ensures.cases
 
-pub returns-then-is_over-3 : goal.returns-then-is_over-3
-returns-then-is_over-3 c =
-    let more = rw c.rest_of-t.ensures at (sym c.is_over-2.ensures ∙ c.if-is_over-2.false) in
-    let two = rw (c.rest_of-u.ensures, c.rest_of-t.ensures) at (sym c.is_over-3.ensures ∙ c.if-is_over-3.true) in
-    rw (c.sampled_of-then-is_over-3.ensures, c.hex_of-b.ensures, c.first_word.ensures, c.decimal_of-n.ensures, c.first_word-2.ensures, c.rest_of-t.ensures) (sample_two _ (sym c.is_over.ensures ∙ c.if-is_over.false) more two)
+pub returns-in_err-bits-2 : goal.returns-in_err-bits-2
+returns-in_err-bits-2 c =
+    let bad = c.in_err-bits-2.ensures in
+    let last = no_word _ _ c.if-is_some.ensures c.next_word-3.ensures.cases in
+    ap parsed_of (failed _ c.from_residual-in_err-bits-2.ensures bad.0) ∙ sampled_first 1 0 _ _ bad.1 ∙ sample_two c.in-Some.ensures.cases c.in-Some-next_word.ensures.cases last
+
+pub returns-in_err-times : goal.returns-in_err-times
+returns-in_err-times c =
+    let bits = c.in_ok-bits-2.ensures in
+    let bad = c.in_err-times.ensures in
+    let last = no_word _ _ c.if-is_some.ensures c.next_word-3.ensures.cases in
+    ap parsed_of (failed _ c.from_residual-in_err-times.ensures bad.0) ∙ sampled_times 1 0 _ bits.0 bits.1 refl (omega arith) bad.1 ∙ sample_two c.in-Some.ensures.cases c.in-Some-next_word.ensures.cases last
 
 pub returns : goal.returns
 returns c =
-    let more = rw c.rest_of-t.ensures at (sym c.is_over-2.ensures ∙ c.if-is_over-2.false) in
-    let many = rw (c.rest_of-u.ensures, c.rest_of-t.ensures) at (sym c.is_over-3.ensures ∙ c.if-is_over-3.false) in
-    rw c.wrong_of-2.ensures (sample_many _ (sym c.is_over.ensures ∙ c.if-is_over.false) more many)
+    let bits = c.in_ok-bits-2.ensures in
+    let times = c.in_ok-times.ensures in
+    let last = no_word _ _ c.if-is_some.ensures c.next_word-3.ensures.cases in
+    sampled_good 1 0 _ bits.0 bits.1 refl (omega arith) times.0 times.2 times.1 ∙ sample_two c.in-Some.ensures.cases c.in-Some-next_word.ensures.cases last

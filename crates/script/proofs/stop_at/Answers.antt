@@ -1,19 +1,13 @@
--- `script::stop_at` meets its contract. The loop's invariant: those passed and those to come are all. Assumes nothing.
-use native.Mathlib.Omega.{arith}
-use mathlib.Core.Path.{ap, ◌∙◌}
-use mathlib.Core.Bool.{not}
-use borrow.Author.Tests.{eq-eqb, ne_eqb}
+-- `script::stop_at` meets its contract. Assumes nothing.
+use Rattle.std.proofs.Common.{rules, tests, eqb, refl, ◌∙◌}
+use Rattle.std.proofs.lemmas.Iterator.{YieldsList-from_slice}
+use Rattle.std.proofs.lemmas.Iterator.Search.{position_from_yields_List}
 use Rattle.script.specs.Words.{other}
-use Rattle.script.proofs.Leading.{lead_goes, lead_stops, lead_ends}
+use Rattle.script.proofs.Leading.{place_law}
 use Rattle.script.proofs.stop_at.Goals as goal
 
-pub returns-then-s-i : goal.returns-then-s-i
-returns-then-s-i c =
-    lead_stops (other c.args.stop) _ _ c.loop-i-test.true (ap not (eq-eqb _ _ c.if-s-i.true)) ∙ c.loop-i.invariant.1
-
-pub loop-i-preserved : goal.loop-i-preserved
-loop-i-preserved c =
-    (omega arith, lead_goes (other c.args.stop) _ _ c.loop-i-test.true (ap not (ne_eqb _ _ c.if-s-i.false)) ∙ c.loop-i.invariant.1)
-
 pub returns : goal.returns
-returns c = lead_ends (other c.args.stop) _ _ c.loop-i-test.false ∙ c.loop-i.invariant.1
+returns c =
+    let s = c.args.s.now in
+    let stop = c.args.stop in
+    c.unwrap_or.ensures ∙ place_law (other stop) (λ b. eqb b stop) s (λ b. refl) (position_from_yields_List (λ b. eqb b stop) _ _ c.position.result c.position.ensures.ran (YieldsList-from_slice s cc) (λ x b q k. search (rules, tests)))

@@ -1,23 +1,30 @@
 -- `script::toggle_of` meets its contract. Assumes nothing.
-use mathlib.Core.Path.{sym, ◌∙◌}
-use Rattle.script.proofs.Calls.{toggle_few, toggle_three, toggle_many}
+use mathlib.Core.Path.{ap, ◌∙◌}
+use Rattle.script.specs.Results.{parsed_of}
+use Rattle.script.proofs.Calls.{failed, no_word, sampled_first, sampled_second, sampled_times, sampled_good, toggle_three}
 use Rattle.script.proofs.toggle_of.Goals as goal
 
-pub returns-then-is_over : goal.returns-then-is_over
-returns-then-is_over c =
-    let few = rw (c.rest_of-u.ensures, c.rest_of-t.ensures) at (sym c.is_over.ensures ∙ c.if-is_over.true) in
-    rw c.wrong_of.ensures (toggle_few _ few)
+pub returns-in_err-first : goal.returns-in_err-first
+returns-in_err-first c =
+    let bad = c.in_err-first.ensures in
+    ap parsed_of (failed _ c.from_residual.ensures bad.0) ∙ sampled_first 7 _ _ _ bad.1 ∙ toggle_three c.in-Some.ensures.cases c.in-Some-next_word.ensures.cases c.in-Some-next_word-2.ensures.cases (no_word _ _ c.if-is_some.ensures c.next_word-4.ensures.cases)
 
-pub returns-then-not-is_over : goal.returns-then-not-is_over
-returns-then-not-is_over c =
-    let rest = c.rest_of-u.ensures in
-    let more = rw (rest, c.rest_of-t.ensures) at (sym c.is_over.ensures ∙ c.if-is_over.false) in
-    let many = rw (c.rest_of-v.ensures, rest, c.rest_of-t.ensures) at (sym c.is_over-2.ensures ∙ c.if-not-is_over.true) in
-    rw c.wrong_of-then-not-is_over.ensures (toggle_many _ more many)
+pub returns-in_err-second : goal.returns-in_err-second
+returns-in_err-second c =
+    let first = c.in_ok-first.ensures in
+    let bad = c.in_err-second.ensures in
+    ap parsed_of (failed _ c.from_residual-in_err-second.ensures bad.0) ∙ sampled_second 7 _ _ first.0 first.1 bad.1 ∙ toggle_three c.in-Some.ensures.cases c.in-Some-next_word.ensures.cases c.in-Some-next_word-2.ensures.cases (no_word _ _ c.if-is_some.ensures c.next_word-4.ensures.cases)
+
+pub returns-in_err-times : goal.returns-in_err-times
+returns-in_err-times c =
+    let first = c.in_ok-first.ensures in
+    let second = c.in_ok-second.ensures in
+    let bad = c.in_err-times.ensures in
+    ap parsed_of (failed _ c.from_residual-in_err-times.ensures bad.0) ∙ sampled_times 7 _ _ first.0 first.1 second.0 second.1 bad.1 ∙ toggle_three c.in-Some.ensures.cases c.in-Some-next_word.ensures.cases c.in-Some-next_word-2.ensures.cases (no_word _ _ c.if-is_some.ensures c.next_word-4.ensures.cases)
 
 pub returns : goal.returns
 returns c =
-    let one = c.rest_of-t.ensures in
-    let more = rw (c.rest_of-u.ensures, one) at (sym c.is_over.ensures ∙ c.if-is_over.false) in
-    let three = rw (c.rest_of-v.ensures, c.rest_of-u.ensures, one) at (sym c.is_over-2.ensures ∙ c.if-not-is_over.false) in
-    rw (c.sampled_of.ensures, c.hex_of-a.ensures, c.first_word.ensures, c.hex_of-b.ensures, c.first_word-2.ensures, c.decimal_of-n.ensures, c.first_word-3.ensures, c.rest_of-u.ensures, one) (toggle_three _ more three)
+    let first = c.in_ok-first.ensures in
+    let second = c.in_ok-second.ensures in
+    let times = c.in_ok-times.ensures in
+    sampled_good 7 _ _ first.0 first.1 second.0 second.1 times.0 times.2 times.1 ∙ toggle_three c.in-Some.ensures.cases c.in-Some-next_word.ensures.cases c.in-Some-next_word-2.ensures.cases (no_word _ _ c.if-is_some.ensures c.next_word-4.ensures.cases)

@@ -4,4 +4,4 @@ use Rattle.setpoints.proofs.from_registers.Goals as goal
 
 pub returns : goal.returns
 unfolding register_setpoint setpoints_of
-returns c = rw (c.blank-empty.ensures, c.settings_in-thermostat.ensures, c.place-place.ensures)
+returns c = rw (c.settings_in-thermostat.ensures, c.place-place.ensures)

@@ -1,17 +1,11 @@
--- `short_buffers::kept` meets its contract. The loop's invariant: those passed and those to come are all. Assumes nothing.
-use native.Mathlib.Omega.{arith}
-use borrow.Author.Tests.{eq-eqb, ne_eqb}
-use Rattle.short_buffers.proofs.Laws.{kept_turn, kept_none}
+-- `short_buffers::kept` meets its contract. Assumes nothing.
+use Rattle.std.proofs.Common.{eqb, rules, tests, ◌∙◌}
+use Rattle.std.proofs.lemmas.Iterator.{YieldsList-from_slice}
+use Rattle.std.proofs.lemmas.Iterator.Consumers.{YieldsList-from_filter, count_from_yields_List}
+use Rattle.short_buffers.proofs.Laws.{kept_law}
 use Rattle.short_buffers.proofs.kept.Goals as goal
-use Rattle.short_buffers.proofs.kept.Goals.{then-b-i, else-b-i}
-
-pub loop-i-preserved : goal.loop-i-preserved
-loop-i-preserved c =
-    let turn = kept_turn c.args.b.now c.loop-i.i c.loop-i-test.true in
-    elim c.if-b-i.branch [
-      | then-b-i w ↦ (omega arith, omega arith, omega (arith, rw (eq-eqb _ 0xEE w.if-b-i.true) at turn))
-      | else-b-i w ↦ (omega arith, omega arith, omega (arith, rw (ne_eqb _ 0xEE w.if-b-i.false) at turn))
-    ]
 
 pub returns : goal.returns
-returns c = omega (arith, kept_none c.args.b.now c.loop-i.i c.loop-i-test.false)
+returns c =
+    let b = c.args.b.now in
+    count_from_yields_List c.filter.result c.count.result c.count.ensures.ran (YieldsList-from_filter _ (λ x. eqb x 0xEE) (YieldsList-from_slice b cc) c.filter.ensures.closure (λ x r q k. search (rules, tests))) ∙ kept_law b

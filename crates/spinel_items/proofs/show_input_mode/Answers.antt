@@ -5,4 +5,4 @@ use Rattle.spinel_items.proofs.show_input_mode.Goals as goal
 
 pub returns : goal.returns
 unfolding mode_shown extended
-returns c = rw (c.push.ensures, c.byte_at.ensures, c.index_of.ensures)
+returns c = rw (c.push.ensures, c.element.ensures, c.index_of.ensures)

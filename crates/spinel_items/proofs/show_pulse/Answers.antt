@@ -6,4 +6,4 @@ use Rattle.spinel_items.proofs.show_pulse.Goals as goal
 pub returns : goal.returns
 unfolding pulse_shown extended
 returns c =
-    rw (c.push.ensures, c.remaining_time.ensures, c.push-first.ensures, c.set_byte.ensures, c.output_at-o.ensures)
+    rw (c.push.ensures, c.remaining_time.ensures, c.push-first.ensures, c.set_byte.ensures, c.element-o.ensures, c.index_of.ensures)

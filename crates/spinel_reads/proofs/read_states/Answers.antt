@@ -1,15 +1,17 @@
 -- `spinel_reads::read_states` meets its contract: two bytes, or none. Assumes nothing.
-use borrow.Author.Tests.{eq-eqb, ne_eqb}
-use Rattle.model.specs.Refusals.{judged}
+use Rattle.std.proofs.Common.{rules, ◌≡◌, Err}
+use Rattle.model.specs.Refusals.{refusal_of}
+use Rattle.encoding.proofs.Telling.{told_refused, told_answered}
 use Rattle.spinel_reads.specs.Answers.{states_told}
 use Rattle.spinel_reads.proofs.States.{states_gathered}
 use Rattle.spinel_reads.proofs.read_states.Goals as goal
 
-pub returns-then-d-ne0 : goal.returns-then-d-ne0
-unfolding states_told judged
-returns-then-d-ne0 c = rw (c.refuse.ensures, ne_eqb _ _ c.if-d-ne0.true)
+pub returns-in_err-refused_if : goal.returns-in_err-refused_if
+unfolding states_told refusal_of
+returns-in_err-refused_if c =
+    let e : c.from_residual.result ≡ Err c.in_err-refused_if.field-0.0 = search rules in
+    rw e (told_refused _ _ (rw c.is_empty.ensures at c.in_err-refused_if.ensures))
 
 pub returns : goal.returns
-unfolding states_told judged
-returns c =
-    rw (c.tell.ensures, c.push16.ensures, c.empty.ensures, eq-eqb _ _ c.if-d-ne0.false, states_gathered)
+unfolding states_told refusal_of
+returns c = told_answered _ _ (rw c.is_empty.ensures at c.in_ok-refused_if.ensures) (rw (c.push16.ensures, c.empty.ensures, states_gathered))

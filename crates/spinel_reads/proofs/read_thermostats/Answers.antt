@@ -1,29 +1,49 @@
 -- `spinel_reads::read_thermostats` meets its contract. Assumes nothing.
-use native.Mathlib.Omega.{arith}
-use mathlib.Core.Path.{sym, ◌∙◌}
-use mathlib.Core.Bool.{true, false}
-use lib.ListN.{length}
-use borrow.Author.Tests.{le-leb, lt-leb}
-use Rattle.model.specs.Refusals.{judged}
+use Rattle.std.proofs.Common.{rules, arith, ◌≡◌, Err, sym, refl, ◌∙◌, List, ℕ, length}
+use mathlib.Core.Bool.{Bool, true, false, not, cond}
+use lib.Dec.{leb}
+use borrow.Author.Tests.{ltb-false}
+use Rattle.lists.specs.Tests.{all}
+use Rattle.lists.proofs.Choices.{below}
+use Rattle.model.specs.Counters.{is_number}
 use Rattle.model.specs.Temperature.{read_thermostats}
-use Rattle.spinel_reads.proofs.ListReads.{groups_fit, named_numbers}
+use Rattle.model.proofs.Refusing.{stops, goes, passes}
+use Rattle.encoding.proofs.Telling.{told_refused, told_answered}
+use Rattle.spinel_reads.proofs.ListReads.{thermostats_refused, groups_fit}
 use Rattle.spinel_reads.proofs.read_thermostats.Goals as goal
 
-pub returns-then-d-gt12 : goal.returns-then-d-gt12
-unfolding read_thermostats judged
-returns-then-d-gt12 c = rw (c.refuse.ensures, lt-leb (length c.args.d.now) 12 c.if-d-gt12.true)
+holds : (b : Bool) → not b ≡ false → b ≡ true
+holds true e = refl
+holds false e = cc
 
-pub returns-then-not-all_numbers : goal.returns-then-not-all_numbers
-unfolding read_thermostats judged
-returns-then-not-all_numbers c =
+-- 8, and what is looked at after it
+abbrev many : List ℕ → Bool
+many d = not (leb (length d) 12)
+
+abbrev later : List ℕ → ℕ
+later d = cond (not (all is_number d)) 11 0
+
+pub returns-in_err-refused_if : goal.returns-in_err-refused_if
+returns-in_err-refused_if c =
     let d = c.args.d.now in
-    let bad = sym c.all_numbers.ensures ∙ c.if-not-all_numbers.true in
-    rw (c.refuse-then-not-all_numbers.ensures, le-leb (length d) 12 (omega arith), named_numbers d false bad)
+    let r = c.in_err-refused_if.field-0.0 in
+    let e : c.from_residual.result ≡ Err r = search rules in
+    rw e (told_refused (read_thermostats d c.args.hs) r (stops (many d) 8 (later d) r (rw (below 12 (length d)) at c.in_err-refused_if.ensures) ∙ sym (thermostats_refused d c.args.hs)))
+
+pub returns-in_err-refused_if-2 : goal.returns-in_err-refused_if-2
+returns-in_err-refused_if-2 c =
+    let d = c.args.d.now in
+    let r = c.in_err-refused_if-2.field-0.0 in
+    let e : c.from_residual-in_err-refused_if-2.result ≡ Err r = search rules in
+    let few = rw (below 12 (length d)) at c.in_ok-refused_if.ensures in
+    let named = rw c.all_numbers.ensures at c.in_err-refused_if-2.ensures in
+    rw e (told_refused (read_thermostats d c.args.hs) r (named ∙ goes (many d) 7 (later d) few ∙ sym (thermostats_refused d c.args.hs)))
 
 pub returns : goal.returns
-unfolding read_thermostats judged
+unfolding read_thermostats
 returns c =
-    let a = c.args in
-    let d = a.d.now in
-    let good = sym c.all_numbers.ensures ∙ c.if-not-all_numbers.false in
-    rw (c.tell.ensures, c.show_groups.ensures, groups_fit a.hs d (omega arith) good, le-leb (length d) 12 (omega arith), named_numbers d true good)
+    let d = c.args.d.now in
+    let few = rw (below 12 (length d)) at c.in_ok-refused_if.ensures in
+    let named = rw c.all_numbers.ensures at c.in_ok-refused_if-2.ensures in
+    told_answered (read_thermostats d c.args.hs) _ (named ∙ goes (many d) 7 (later d) few ∙ sym (thermostats_refused d c.args.hs))
+    (c.show_groups.ensures ∙ groups_fit c.args.hs d (omega (arith, ltb-false 12 (length d) (passes _ 7 c.in_ok-refused_if.ensures))) (holds _ (passes _ 10 named)))

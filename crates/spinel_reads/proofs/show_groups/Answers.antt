@@ -1,12 +1,14 @@
 -- `spinel_reads::show_groups` meets its contract. Assumes nothing.
-use borrow.Author.Tests.{eq-eqb, ne_eqb}
+use Rattle.std.proofs.Common.{rules, ◌≡◌, ◌∙◌, ap}
+use Rattle.model.specs.Temperature.{group_shown}
 use Rattle.spinel_reads.specs.Shown.{all_if_none}
 use Rattle.spinel_reads.proofs.show_groups.Goals as goal
+use Rattle.spinel_reads.proofs.show_groups.Goals.{Joined-is_empty, then-is_empty, else-is_empty}
 
-pub returns-then-d-eq0 : goal.returns-then-d-eq0
+asked : (c : Joined-is_empty) → c.if-is_empty.asked.now ≡ all_if_none c.args.d.now
 unfolding all_if_none
-returns-then-d-eq0 c = rw (eq-eqb _ _ c.if-d-eq0.true) c.show_listed.ensures
+asked c = elim c.if-is_empty.branch [ then-is_empty w ↦ rw (w.asked-is, ← w.if-is_empty.ensures) | else-is_empty w ↦ rw (w.asked-is, ← w.if-is_empty.ensures) ]
 
 pub returns : goal.returns
-unfolding all_if_none
-returns c = rw (ne_eqb _ _ c.if-d-eq0.false) c.show_listed-2.ensures
+returns c =
+    rw (← asked (goal.at.returns c).Joined-is_empty) (c.show_listed.ensures (group_shown c.args.hs) (λ n out r p. search rules))

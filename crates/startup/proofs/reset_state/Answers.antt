@@ -4,5 +4,4 @@ use Rattle.startup.proofs.reset_state.Goals as goal
 
 pub returns : goal.returns
 unfolding reset
-returns c =
-    rw (c.permitted-modbus.ensures, c.permitted-spinel.ensures, c.reset_inputs-inputs.ensures)
+returns c = rw (c.permitted-2.ensures, c.permitted.ensures, c.reset_inputs.ensures)

@@ -1,12 +1,9 @@
 -- `thermostat::heat` meets its contract. Assumes nothing.
 use mathlib.Core.Bool.{true}
 use mathlib.Core.Path.{◌≡◌, sym, ◌∙◌}
-use native.Mathlib.Omega.{arith}
 use Rattle.model.specs.Temperature.{active}
-use borrow.Author.Tests.{eq-eqb, ne_eqb}
 use mir.Facts.{to_z-of_z}
 use Rattle.model.specs.Temperature.{heated}
-use Rattle.lists.proofs.Choices.{eqb_at}
 use Rattle.thermostat.proofs.heat.Goals as goal
 use Rattle.thermostat.proofs.heat.Goals.{Else-not-is_active}
 
@@ -18,22 +15,22 @@ pub returns-then-not-is_active : goal.returns-then-not-is_active
 unfolding heated
 returns-then-not-is_active c = rw (sym c.is_active.ensures ∙ c.if-not-is_active.true)
 
-pub returns-in-0 : goal.returns-in-0
+pub returns-in-OnAbove : goal.returns-in-OnAbove
 unfolding heated
-returns-in-0 c =
-    rw (on (goal.at.returns-in-0 c).Else-not-is_active, ← c.action_of-ss.ensures, eq-eqb c.action_of-ss.result 0 c.in-0.is)
-    (rw (to_z-of_z c.ranges.now) at c.level.ensures)
+returns-in-OnAbove c =
+    rw (on (goal.at.returns-in-OnAbove c).Else-not-is_active, ← c.action_of.ensures, c.in-OnAbove.is) (rw (to_z-of_z c.ranges.now) at c.level.ensures)
 
-pub returns-in-1 : goal.returns-in-1
+pub returns-in-OffAbove : goal.returns-in-OffAbove
 unfolding heated
-returns-in-1 c =
-    let ss = c.action_of-ss.result in
-    rw (on (goal.at.returns-in-1 c).Else-not-is_active, ← c.action_of-ss.ensures, eqb_at ss 1 0 c.in-1.is, eqb_at ss 1 1 c.in-1.is)
-    (rw (to_z-of_z c.ranges.now) at c.level-in-1.ensures)
+returns-in-OffAbove c =
+    rw (on (goal.at.returns-in-OffAbove c).Else-not-is_active, ← c.action_of.ensures, c.in-OffAbove.is) (rw (to_z-of_z c.ranges.now) at c.level-in-OffAbove.ensures)
 
-pub returns-in_default : goal.returns-in_default
+pub returns-in-OnPulse : goal.returns-in-OnPulse
 unfolding heated
-returns-in_default c =
-    let ss = c.action_of-ss.result in
-    rw (on (goal.at.returns-in_default c).Else-not-is_active, ← c.action_of-ss.ensures, ne_eqb ss 0 (omega arith), ne_eqb ss 1 (omega arith))
-    (rw (to_z-of_z c.ranges.now) at c.cross.ensures)
+returns-in-OnPulse c =
+    rw (on (goal.at.returns-in-OnPulse c).Else-not-is_active, ← c.action_of.ensures, c.in-OnPulse.is) (rw (to_z-of_z c.ranges.now) at c.cross.ensures)
+
+pub returns-in-OffPulse : goal.returns-in-OffPulse
+unfolding heated
+returns-in-OffPulse c =
+    rw (on (goal.at.returns-in-OffPulse c).Else-not-is_active, ← c.action_of.ensures, c.in-OffPulse.is) (rw (to_z-of_z c.ranges.now) at c.cross-in-OffPulse.ensures)

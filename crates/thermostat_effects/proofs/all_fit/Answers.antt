@@ -1,20 +1,12 @@
--- `thermostat_effects::all_fit` meets its contract. The loop's invariant: the setpoints left decide as the whole does. Assumes nothing.
-use mathlib.Core.Path.{sym, ◌∙◌}
-use Rattle.lists.proofs.Loops.{test_goes, test_stops, test_ends}
-use Rattle.setpoints.specs.Setpoints.{no_setpoint}
+-- `thermostat_effects::all_fit` meets its contract. Assumes nothing.
+use borrow.Author.Tests.{tests}
+use Rattle.std.proofs.Common.{rules, ◌∙◌}
+use Rattle.std.proofs.lemmas.Iterator.Search.{all_from_yields_List}
+use Rattle.std.proofs.lemmas.Iterator.{YieldsList-from_slice}
+use Rattle.lists.proofs.Chains.{all_same}
 use Rattle.thermostat_effects.specs.Parts.{setpoint_fits}
 use Rattle.thermostat_effects.proofs.all_fit.Goals as goal
 
-pub returns-then-not-setpoint_fits : goal.returns-then-not-setpoint_fits
-returns-then-not-setpoint_fits c =
-    let bad = rw c.setpoint_at.ensures at (sym c.setpoint_fits.ensures ∙ c.if-not-setpoint_fits.true) in
-    test_stops setpoint_fits _ c.count-n.ensures c.loop-i.i no_setpoint c.loop-i-test.true bad ∙ c.loop-i.invariant
-
-pub loop-i-preserved : goal.loop-i-preserved
-loop-i-preserved c =
-    let good = rw c.setpoint_at.ensures at (sym c.setpoint_fits.ensures ∙ c.if-not-setpoint_fits.false) in
-    test_goes setpoint_fits _ c.count-n.ensures c.loop-i.i no_setpoint c.loop-i-test.true good ∙ c.loop-i.invariant
-
 pub returns : goal.returns
 returns c =
-    test_ends setpoint_fits _ c.count-n.ensures c.loop-i.i c.loop-i-test.false ∙ c.loop-i.invariant
+    all_from_yields_List setpoint_fits _ _ _ c.all.ensures.ran (YieldsList-from_slice c.args.es.now cc) (λ x b q k. search (rules, tests)) ∙ all_same setpoint_fits c.args.es.now

@@ -12,4 +12,4 @@ returns c =
     let a = c.args in
     let fx : SFits w16 a.h.tempx = search rules in
     let fy : SFits w16 a.h.tempy = search rules in
-    rw (to_z-of_z fx, to_z-of_z fy, c.sensor_of.ensures, c.is_active.ensures, c.action_of.ensures)
+    rw (to_z-of_z fx, to_z-of_z fy, c.sensor_of.ensures, c.is_active.ensures, c.is_timed.ensures)

@@ -1,8 +1,0 @@
--- `frames::spinel_broadcast_wrong` meets its contract. Assumes nothing.
-use mathlib.Core.Path.{refl}
-use Rattle.model.specs.Refusals.{spinel_broadcast_wrong}
-use Rattle.frames.proofs.spinel_broadcast_wrong.Goals as goal
-
-pub returns : goal.returns
-unfolding spinel_broadcast_wrong
-returns c = refl

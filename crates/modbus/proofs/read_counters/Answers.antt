@@ -1,8 +1,0 @@
--- `modbus::read_counters` meets its contract. Assumes nothing.
-use Rattle.outcomes.proofs.Laws.{told_law}
-use Rattle.model.specs.Registers.{read_words}
-use Rattle.modbus.proofs.read_counters.Goals as goal
-
-pub returns : goal.returns
-unfolding read_words
-returns c = rw (c.told.ensures, c.read_counters.ensures) (told_law _ _)

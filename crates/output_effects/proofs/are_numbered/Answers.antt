@@ -1,0 +1,13 @@
+-- `output_effects::are_numbered` meets its contract. Assumes nothing.
+use borrow.Author.Tests.{tests}
+use Rattle.std.proofs.Common.{rules, ◌∙◌}
+use Rattle.std.proofs.lemmas.Iterator.Search.{all_from_yields_List}
+use Rattle.std.proofs.lemmas.Iterator.{YieldsList-from_slice}
+use Rattle.lists.proofs.Chains.{all_same}
+use Rattle.model.specs.Outputs.{number_fits}
+use Rattle.output_effects.proofs.are_numbered.Goals as goal
+
+pub returns : goal.returns
+returns c =
+    let test = number_fits in
+    all_from_yields_List test _ _ _ c.all.ensures.ran (YieldsList-from_slice c.args.es.now cc) (λ x b q k. search (rules, tests)) ∙ all_same test c.args.es.now

@@ -1,0 +1,14 @@
+-- `port_effects::fields_refusal` meets its contract. Assumes nothing.
+use borrow.Author.Tests.{tests}
+use Rattle.std.proofs.Common.{rules, ◌∙◌}
+use Rattle.std.proofs.lemmas.Iterator.Search.{all_from_yields_List}
+use Rattle.std.proofs.lemmas.Iterator.{YieldsList-from_slice}
+use Rattle.lists.proofs.Chains.{all_same}
+use Rattle.model.specs.Registers.{port_settable}
+use Rattle.port_effects.proofs.fields_refusal.Goals as goal
+
+pub returns : goal.returns
+returns c =
+    let es = c.args.es.now in
+    let all_fit = all_from_yields_List port_settable _ _ _ c.all-fit.ensures.ran (YieldsList-from_slice es cc) (λ x b q k. search (rules, tests)) ∙ all_same port_settable es in
+    rw (c.refused_if.ensures, all_fit)
