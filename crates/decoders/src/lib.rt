@@ -11,7 +11,9 @@ ghost use Rattle.model.specs.Registers.{bit_group, number_at};
 use lists::{Entries, Entry};
 use model::Group;
 
-// The entry of two bytes at a place: a number and a value.
+// The entry of two bytes at a place: a number and a value. That there is such a place is asked of each of these functions by its own
+// width.
+#[tactic(auto, using(crate::proofs::Places::pair_place))]
 fn pair_at(d: &[u8], j: usize) -> Entry
     requires { j < length d.now / 2 }
     ensures { result ≡ get_or (entries 2 d.now) j (entry 0 0) }
@@ -22,6 +24,7 @@ fn pair_at(d: &[u8], j: usize) -> Entry
 }
 
 // The entry of five bytes at a place: a number and a value of four.
+#[tactic(auto, using(crate::proofs::Places::five_place))]
 fn five_at(d: &[u8], j: usize) -> Entry
     requires { j < length d.now / 5 }
     ensures { result ≡ get_or (entries 5 d.now) j (entry 0 0) }
@@ -34,6 +37,7 @@ fn five_at(d: &[u8], j: usize) -> Entry
 }
 
 // The value of two bytes at a place, for the group's register so many after a.
+#[tactic(auto, using(crate::proofs::Places::register_place))]
 fn register_at(g: Group, a: u16, d: &[u8], j: usize) -> Entry
     requires { j < length d.now / 2 }
     ensures { result ≡ get_or (numbered (number_at g a) (words d.now)) j (entry 0 0) }
@@ -47,6 +51,7 @@ fn register_at(g: Group, a: u16, d: &[u8], j: usize) -> Entry
 }
 
 // The set byte at a place: the top bit for on, below it the output's number.
+#[tactic(auto, using(crate::proofs::Places::set_place), unfolding(model::specs::Outputs::set_byte))]
 fn set_at(d: &[u8], j: usize) -> Entry
     ensures { result ≡ get_or (map set_byte d.now) j (entry 0 0) }
 {
@@ -65,6 +70,7 @@ fn bit_of(d: &[u8], j: usize) -> u32
 }
 
 // The bit at a place of n, for the coil so many after a.
+#[tactic(auto, using(crate::proofs::Places::coil_place))]
 fn coil_at(a: u16, n: u16, d: &[u8], j: usize) -> Entry
     requires { j < n }
     ensures { result ≡ get_or (numbered (number_at bit_group a) (bits_from 0 n d.now)) j (entry 0 0) }
@@ -74,14 +80,15 @@ fn coil_at(a: u16, n: u16, d: &[u8], j: usize) -> Entry
     Entry { number, value }
 }
 
-// The first sixteen of n entries, the one at each place by a call.
+// The first sixteen of n entries, the one at each place by a call. By its place and not by chunks: a coil is a bit of a byte, and
+// a register's number goes by its place.
 fn decode<F: Fn(usize) -> Entry>(n: usize, entry_at: F) -> Entries
     requires { (j : ℕ) → j < n → F.pre entry_at j }
     ensures { (l : List EntryOf) → length l ≡ n → ((j : ℕ) (e : EntryOf) → j < n → F.post entry_at j e → e ≡ get_or l j (entry 0 0)) → result ≡ entries_of (take 16 l) }
 {
     let mut es = entries::none();
     for j in 0..n {
-        es = entries::add(es, entry_at(j));
+        es = es.push(entry_at(j));
     }
     es
 }
@@ -108,6 +115,7 @@ pub fn registers(g: Group, a: u16, d: &[u8]) -> Entries
 }
 
 // The value of two bytes at a place, or 0 past the end.
+#[tactic(auto, using(crate::proofs::Places::value_place, crate::proofs::Places::value_out))]
 pub fn value_at(d: &[u8], j: usize) -> u16
     ensures { result ≡ get_or (words d.now) j 0 }
 {

@@ -1,3 +1,2 @@
-pub mod Signed
-pub mod NoNan
 pub mod Telling
+pub mod Words

@@ -1,10 +1,11 @@
-// Two-byte, four-byte and signed numbers, float words, sixteen-element arrays, and reply data.
+// Numbers as bytes, words and bits, signed numbers and floats, reply data, elements by index, and a check that refuses.
 #![tactic(auto)]
 
 ghost use Rattle.std.specs.Prelude.{◌≡◌, cond, [], ◌∷◌, ◌+◌, ◌-◌, ◌*◌, ◌/◌, ◌%◌, get_or, set};
-ghost use Rattle.lists.specs.Data.{data_of, pushed, extended, bytes_in};
+ghost use Rattle.lists.specs.Data.{data_of, extended};
 ghost use Rattle.lists.specs.Numbers.{number, word_at, bytes, bits_number};
 ghost use Rattle.model.specs.Temperature.{signed_of, pattern_of, float_bits};
+ghost use Rattle.model.specs.Counters.{some_data};
 ghost use Rattle.model.specs.Numbers.{number_of, refused_by};
 
 use lists::Data;
@@ -18,78 +19,62 @@ pub struct FloatWords {
 }
 
 // No bytes.
+#[tactic(auto, unfolding(lists::specs::Data::padded))]
 pub fn empty() -> Data
     ensures { result ≡ data_of [] }
 {
-    Data {
-        items: [0u8; 256],
-        len: 0,
-    }
-}
-
-// One byte more; a full `d` stays as it is. It is the bounded list's `push`, in the definition's words.
-pub fn push(d: Data, b: u8) -> Data
-    ensures { result ≡ pushed d b }
-{
-    d.push(b)
+    Data::empty(0)
 }
 
 // A two-byte number, high byte first.
-pub fn push16(d: Data, v: u16) -> Data
-    ensures { result ≡ extended d (bytes 2 v) }
+#[tactic(auto, unfolding(lists::specs::Numbers::bytes))]
+pub fn push16(d: Data, word: u16) -> Data
+    ensures { result ≡ extended d (bytes 2 word) }
 {
-    let high = high_byte(v);
-    let low = low_byte(v);
-    push(push(d, high), low)
+    append(d, &word.to_be_bytes())
 }
 
-// A four-byte number, its high word first.
+// A four-byte number, its high byte first.
 pub fn push32(d: Data, v: u32) -> Data
     ensures { result ≡ extended d (bytes 4 v) }
 {
-    let high = high_word(v);
-    let low = low_word(v);
-    push16(push16(d, high), low)
+    append(d, &v.to_be_bytes())
 }
 
-// `d` with the bytes of `b` after its own.
-pub fn append(d: Data, b: Data) -> Data
-    ensures { result ≡ extended d (bytes_in b) }
+// `d` with these bytes after its own: the bounded list's `append`, as the definitions have it.
+#[tactic(auto, using(lists::proofs::DataLaws::extended_same))]
+pub fn append(d: Data, bytes: &[u8]) -> Data
+    ensures { result ≡ extended d bytes.now }
 {
-    let counted = b.as_slice();
-    let mut out = d;
-    for byte in counted {
-        out = out.push(*byte);
-    }
-    out
+    d.append(bytes)
 }
 
 // The number of two bytes, high byte first.
 pub fn be16(high: u8, low: u8) -> u16
     ensures { result ≡ number (high ∷ low ∷ []) }
 {
-    (high as u16) * 256 + (low as u16)
+    u16::from_be_bytes([high, low])
 }
 
 // The high byte of a two-byte number.
 pub fn high_byte(v: u16) -> u8
     ensures { result ≡ v / 256 }
 {
-    (v / 256) as u8
+    v.to_be_bytes()[0]
 }
 
 // Its low byte.
 pub fn low_byte(v: u16) -> u8
     ensures { result ≡ v % 256 }
 {
-    (v % 256) as u8
+    v.to_be_bytes()[1]
 }
 
-// The number of two words, the high one first.
+// The number of two words, the high one first. Std has the bytes of a number, and not its words.
 pub fn be32(high: u16, low: u16) -> u32
     ensures { result ≡ high * 65536 + low }
 {
-    (high as u32) * 65536 + (low as u32)
+    u32::from(high) * 65536 + u32::from(low)
 }
 
 // The high word of a four-byte number.
@@ -110,56 +95,40 @@ pub fn low_word(v: u32) -> u16
 pub fn bits_of(bs: [bool; 16]) -> u16
     ensures { result ≡ bits_number bs }
 {
-    let mut bits: u16 = 0;
-    let mut rest = bs.as_slice();
-    while let Some((last, front)) = rest.split_last() {
-        bits = u16::from(*last) + 2 * (bits % 32768);
-        rest = front;
-    }
-    bits
+    bs.iter()
+        .rev()
+        .fold(0, |bits, b| u16::from(*b) + 2 * (bits % 32768))
 }
 
-// A 16-bit pattern read as two's complement. From 8000H up, what is missing to FFFFH is the number's complement.
+// A 16-bit pattern read as two's complement.
 pub fn signed_of(n: u16) -> i16
     ensures { result ≡ signed_of n }
 {
-    if n < 0x8000 {
-        return n as i16;
-    }
-    let k = 0xFFFF - n;
-    let m = k as i16;
-    !m
+    n.cast_signed()
 }
 
 // The two's complement pattern of a number.
 pub fn pattern_of(x: i16) -> u16
     ensures { result ≡ pattern_of x }
 {
-    if x < 0 {
-        let m = !x;
-        let k = m as u16;
-        return 0xFFFF - k;
-    }
-    x as u16
+    x.cast_unsigned()
 }
 
 // The bits of a float, 0 for a NaN: `f32::to_bits` asks that there is none.
+#[tactic(auto, unfolding(model::specs::Temperature::float_bits))]
 pub fn float_bits(x: f32) -> u32
     ensures { result ≡ float_bits x }
 {
-    if x == x {
-        return f32::to_bits(x);
-    }
-    0
+    if x.is_nan() { 0 } else { x.to_bits() }
 }
 
 // The two words of a float's bits.
 pub fn float_words(x: f32) -> FloatWords
     ensures { result ≡ record { high = float_bits x / 65536; low = float_bits x % 65536 } }
 {
-    let b = float_bits(x);
-    let high = high_word(b);
-    let low = low_word(b);
+    let bits = float_bits(x);
+    let high = high_word(bits);
+    let low = low_word(bits);
     FloatWords { high, low }
 }
 
@@ -204,6 +173,13 @@ pub fn word_from(d: &[u8], i: usize) -> u16
     } else {
         0
     }
+}
+
+// 8, where an instruction that takes no data has some.
+pub fn no_data(d: &[u8]) -> Result<(), Refusal>
+    ensures { refused_by result ≡ cond (some_data d.now) 8 0 }
+{
+    refused_if(!d.is_empty(), Refusal::DataLength)
 }
 
 // Refused where a condition holds.

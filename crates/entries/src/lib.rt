@@ -1,47 +1,32 @@
-// Decoded entries, each a number and a value: made one by one, counted and looked up.
+// Decoded entries: none, and what an entry's number and value say.
 #![tactic(auto)]
 
-ghost use Rattle.std.specs.Prelude.{◌≡◌, [], ◌∷◌, ◌-◌, ◌%◌};
-ghost use Rattle.lists.specs.Entries.{entry, entries_of, entries_in, entry_added};
+ghost use Rattle.std.specs.Prelude.{◌≡◌, [], ◌-◌, ◌%◌};
+ghost use Rattle.lists.specs.Entries.{entries_of};
 ghost use Rattle.model.specs.Counters.{is_number};
 
 use lists::{Entries, Entry};
 
 // No entries.
+#[tactic(auto, unfolding(lists::specs::Entries::entries_of))]
 pub fn none() -> Entries
     ensures { result ≡ entries_of [] }
 {
-    Entries {
-        items: [Entry {
-            number: 0,
-            value: 0,
-        }; 16],
-        len: 0,
-    }
+    Entries::empty(Entry {
+        number: 0,
+        value: 0,
+    })
 }
 
-// One entry more, while there is room: the bounded list's `push`, in the definition's words.
-pub fn add(es: Entries, e: Entry) -> Entries
-    ensures { result ≡ entry_added es e }
-{
-    es.push(e)
-}
-
-// One value for one number.
-pub fn single(number: usize, value: u32) -> Entries
-    ensures { result ≡ entries_of (entry number value ∷ []) }
-{
-    add(none(), Entry { number, value })
-}
-
-// Whether an entry has the number of an input or an output.
+// Whether an entry has the number of an input or an output. `number_lists::is_number` says so of a byte: each is one call of std's.
+#[tactic(auto, unfolding(lists::specs::Tests::within))]
 pub fn is_numbered(e: Entry) -> bool
     ensures { result ≡ is_number e.number }
 {
-    (1 <= e.number) & (e.number <= 16)
+    (1..=16).contains(&e.number)
 }
 
-// The place of an entry's number: one less, and 0 for 0.
+// The place of an entry's number: one less, and 0 for 0. `encoding::index_of` says so of a byte: each is one call of std's.
 pub fn place(e: Entry) -> usize
     ensures { result ≡ e.number - 1 }
 {

@@ -1,6 +1,6 @@
 -- Laws of reply data and of lent buffers. Assumes nothing.
 use mathlib.Core.Path.{◌≡◌, sym, ap, ◌∙◌, refl}
-use mathlib.Core.List.{List, [], ◌∷◌, ◌++◌, append_assoc, append-nil, map, flat_map}
+use mathlib.Core.List.{List, [], ◌∷◌, ◌++◌, append_assoc, append-nil, map, flat_map, foldl}
 use Prim.Native.Nat.{ℕ, suc, ◌+◌, ◌-◌, ◌<◌, ◌≤◌}
 use native.Mathlib.Numerals.{add-one}
 use native.Mathlib.Nat.{le_of_eq}
@@ -10,6 +10,7 @@ use lib.ListN.{length, set, take, drop, get_or, length-append, length-drop, drop
 use lib.Seq.{set-append_seam, append_snoc, take-suc, set_at, drop-cons, length-take-le, take-append_seam, get_or-append-add, get_or-drop, take_all}
 use Rattle.lists.specs.Data.{data_of, pushed, extended, bytes_in, filled, padded, over}
 use Rattle.lists.specs.Data.{Data}
+use Rattle.lists.specs.Bounded.{added}
 use Rattle.lists.specs.Numbers.{bytes}
 use mathlib.Core.Bool.{Bool, true, false, cond}
 use Rattle.lists.proofs.ChunkLaws.{rest_first}
@@ -34,7 +35,7 @@ unfolding padded
 padded_push l b h = filled_push 256 0 l b h
 
 pub push_law : (l : List ℕ) (b : ℕ) → length l < 256 → pushed (data_of l) b ≡ data_of (l ++ b ∷ [])
-unfolding pushed
+unfolding added
 push_law l b h = rw (lt-ltb (length l) 256 h, padded_push l b h, length-append)
 
 -- bytes after bytes
@@ -45,6 +46,12 @@ extend_law (x ∷ xs) l h =
     ap (λ (d : Data). extended d xs) (push_law l x (omega arith))
     ∙ extend_law xs (l ++ x ∷ []) (simp length-append (omega arith))
     ∙ ap data_of (append_assoc l (x ∷ []) xs)
+
+-- bytes after bytes, by a fold
+pub extended_same : (xs : List ℕ) (d : Data) → foldl added d xs ≡ extended d xs
+unfolding extended
+extended_same [] d = refl
+extended_same (x ∷ xs) d = extended_same xs (added d x)
 
 -- short data, byte by byte
 pub two_pushed : (a b : ℕ) → pushed (pushed (data_of []) a) b ≡ data_of (a ∷ b ∷ [])

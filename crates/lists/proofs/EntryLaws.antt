@@ -14,6 +14,7 @@ use Rattle.lists.specs.declared.Entry.{Entry}
 use Rattle.lists.specs.Tests.{any, twice}
 use Rattle.lists.specs.Chunks.{chunks, chunks_of}
 use Rattle.lists.specs.Entries.{entry, entry_of, entries, numbered, entries_of, entries_in, entry_added}
+use Rattle.lists.specs.Bounded.{added}
 use Rattle.lists.proofs.DataLaws.{filled_push}
 use Rattle.lists.proofs.ChunkLaws.{length-chunks_of}
 
@@ -25,12 +26,12 @@ entries_in_lem l = take-append_seam l _
 pub entries_whole : (l : List Entry) → length l ≤ 16 → entries_in (entries_of (take 16 l)) ≡ l
 entries_whole l h = entries_in_lem (take 16 l) ∙ take_all 16 l h
 
-added : (l : List Entry) (e : Entry) → length l < 16 → entry_added (entries_of l) e ≡ entries_of (l ++ e ∷ [])
-unfolding entry_added entries_of
-added l e h = rw (lt-ltb (length l) 16 h, filled_push 16 (entry 0 0) l e h, length-append)
+added_one : (l : List Entry) (e : Entry) → length l < 16 → entry_added (entries_of l) e ≡ entries_of (l ++ e ∷ [])
+unfolding added entries_of
+added_one l e h = rw (lt-ltb (length l) 16 h, filled_push 16 (entry 0 0) l e h, length-append)
 
 not_added : (l : List Entry) (e : Entry) → length l ≡ 16 → entry_added (entries_of l) e ≡ entries_of l
-unfolding entry_added entries_of
+unfolding added entries_of
 not_added l e h = rw (le-ltb (length l) 16 (omega arith))
 
 -- added in turn: the first sixteen
@@ -41,7 +42,7 @@ after (e ∷ l) a h = go (ℕ_discrete (length a) 16) (after l)
     go : Dec (length a ≡ 16) → ((b : List Entry) → length b ≤ 16 → foldl entry_added (entries_of b) l ≡ entries_of (take 16 (b ++ l)))
         → foldl entry_added (entry_added (entries_of a) e) l ≡ entries_of (take 16 (a ++ e ∷ l))
     go (yes q) more = rw (not_added a e q, more a h, take_at a l 16 q, take_at a (e ∷ l) 16 q)
-    go (no q) more = rw (added a e (omega arith), more (a ++ e ∷ []) (simp length-append (omega arith)), append_assoc)
+    go (no q) more = rw (added_one a e (omega arith), more (a ++ e ∷ []) (simp length-append (omega arith)), append_assoc)
 
 pub added_all : (l : List Entry) → foldl entry_added (entries_of []) l ≡ entries_of (take 16 l)
 added_all l = after l [] (omega arith)

@@ -10,3 +10,5 @@ pub mod Somes
 pub mod Loops
 pub mod EntryLaws
 pub mod Chains
+pub mod Pieces
+pub mod Made

@@ -1,6 +1,7 @@
 -- Reply data by value, and lent buffers.
-use Rattle.std.specs.Prelude.{cond, List, [], ◌∷◌, ◌++◌, ℕ, ◌+◌, ◌-◌, length, take, drop, set, replicate, ltb}
+use Rattle.std.specs.Prelude.{List, [], ◌∷◌, ◌++◌, ℕ, ◌-◌, length, take, drop, replicate}
 use Rattle.lists.specs.declared.Bounded.{Bounded}
+use Rattle.lists.specs.Bounded.{added}
 
 abbrev pub Data : Type 0
 Data = Bounded ℕ 256
@@ -17,8 +18,8 @@ abbrev pub data_of : List ℕ → Data
 data_of l = record { items = padded l; len = length l }
 
 -- one byte more, while there is room
-unfoldable pub pushed : Data → ℕ → Data
-pushed d b = cond (ltb d.len 256) (record { items = set d.items d.len b; len = d.len + 1 }) d
+abbrev pub pushed : Data → ℕ → Data
+pushed = added
 
 unfoldable pub extended : Data → List ℕ → Data
 extended d [] = d

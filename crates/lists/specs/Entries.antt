@@ -1,10 +1,11 @@
 -- Bytes as numbered values, and such entries by value.
-use Rattle.std.specs.Prelude.{ℕ, suc, ◌+◌, cond, List, [], ◌∷◌, map, ltb, length, get_or, take, drop, set}
+use Rattle.std.specs.Prelude.{ℕ, suc, List, [], ◌∷◌, map, length, get_or, take, drop}
 use Rattle.lists.specs.Numbers.{number}
 use Rattle.lists.specs.Chunks.{chunks}
 use Rattle.lists.specs.Data.{filled}
 use Rattle.lists.specs.declared.Entry.{Entry}
 use Rattle.lists.specs.declared.Bounded.{Bounded}
+use Rattle.lists.specs.Bounded.{added}
 
 abbrev pub Entries : Type 0
 Entries = Bounded Entry 16
@@ -36,5 +37,5 @@ abbrev pub entries_in : Entries → List Entry
 entries_in es = take es.len es.items
 
 -- one more, while there is room
-unfoldable pub entry_added : Entries → Entry → Entries
-entry_added es e = cond (ltb es.len 16) (record { items = set es.items es.len e; len = es.len + 1 }) es
+abbrev pub entry_added : Entries → Entry → Entries
+entry_added = added

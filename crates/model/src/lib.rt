@@ -11,6 +11,7 @@ pub struct Line {
     pub run: u8,
 }
 
+// Fresh values are constants by 01's name for them: `default()` would not say that the fresh state is meant.
 impl Line {
     pub const FRESH: Line = Line {
         stable: false,
@@ -25,7 +26,7 @@ pub struct Inputs {
     pub counters: [u32; 16],
 }
 
-// One output: its state, and the samples left of its pulse (0: no pulse).
+// One output: its state, and the samples left of its pulse (0: no pulse, a number and no Option, as 01 counts it down to 0).
 #[derive(Clone, Copy)]
 pub struct Output {
     pub on: bool,
@@ -36,7 +37,7 @@ impl Output {
     pub const FRESH: Output = Output { on: false, left: 0 };
 }
 
-// A time in half seconds: of a pulse, of a preset.
+// A time in half seconds: of a pulse, of a preset. It and the next are two types since 01 names the two units.
 #[derive(Clone, Copy)]
 pub struct HalfSeconds(pub u8);
 
@@ -59,7 +60,7 @@ impl Preset {
     };
 }
 
-// A thermostat's settings. The flags are FSSKTTTT. ERR is a byte and no enum: any may be stored, and is shown so.
+// A thermostat's settings. The flags are FSSKTTTT. Flags and ERR are bytes and no enums: any may be stored, and is shown so.
 #[derive(Clone, Copy)]
 pub struct Thermostat {
     pub flags: u8,
@@ -95,7 +96,7 @@ pub struct Notice {
     pub signature: u8,
 }
 
-// A port: its address, its speed code, and whether its next request may configure it.
+// A port: its address, its speed, a code that is shown as it is stored, and whether its next request may configure it.
 #[derive(Clone, Copy)]
 pub struct Port {
     pub address: u8,
@@ -103,7 +104,8 @@ pub struct Port {
     pub permitted: bool,
 }
 
-// What only requests change, and a reset keeps: the inputs' modes and sampling number, presets, thermostats, the notice.
+// What only requests change, and a reset keeps: the inputs' modes and sampling number, presets, thermostats, the notice. Modes
+// are bytes and no enum: any may be stored, and is shown so.
 #[derive(Clone, Copy)]
 pub struct Settings {
     pub modes: [u8; 16],
@@ -113,7 +115,7 @@ pub struct Settings {
     pub notice: Notice,
 }
 
-// The whole state. `last` is the last valid reading, a fault where there was none.
+// The whole state. `last` is the last valid reading, a fault where there was none: `Reading` says that by its own two cases.
 #[derive(Clone, Copy)]
 pub struct Module {
     pub inputs: Inputs,
@@ -132,22 +134,22 @@ pub struct Group {
     pub count: u16,
 }
 
-// Why a call is refused: 1 to 13, in the order of their numbers.
+// Why a call is refused, each by its number.
 #[derive(Clone, Copy)]
 pub enum Refusal {
-    ShortBuffer,
-    FrameLength,
-    Shape,
-    Checksum,
-    Address,
-    Broadcast,
-    Unlisted,
-    DataLength,
-    Range,
-    Permission,
-    Value,
-    Held,
-    Repeated,
+    ShortBuffer = 1,
+    FrameLength = 2,
+    Shape = 3,
+    Checksum = 4,
+    Address = 5,
+    Broadcast = 6,
+    Unlisted = 7,
+    DataLength = 8,
+    Range = 9,
+    Permission = 10,
+    Value = 11,
+    Held = 12,
+    Repeated = 13,
 }
 
 impl Refusal {
@@ -155,25 +157,12 @@ impl Refusal {
     pub fn number(self) -> u8
         ensures { result ≡ number_of self }
     {
-        match self {
-            Refusal::ShortBuffer => 1,
-            Refusal::FrameLength => 2,
-            Refusal::Shape => 3,
-            Refusal::Checksum => 4,
-            Refusal::Address => 5,
-            Refusal::Broadcast => 6,
-            Refusal::Unlisted => 7,
-            Refusal::DataLength => 8,
-            Refusal::Range => 9,
-            Refusal::Permission => 10,
-            Refusal::Value => 11,
-            Refusal::Held => 12,
-            Refusal::Repeated => 13,
-        }
+        self as u8
     }
 }
 
-// What a call answers: the refusal's number (0: accepted), which 01 has it carry, the reply's length, the state after.
+// What a call answers: the refusal's number (0: accepted), which 01 has it carry, the state after, and the reply's length: its bytes
+// stand in the buffer that the caller lends.
 #[derive(Drop)]
 pub struct Answer {
     pub refusal: u8,

@@ -1,26 +1,31 @@
 // Lists of numbers: how many items a request has, the numbers of inputs and outputs, and those that a list read names.
 #![tactic(auto)]
 
-ghost use Rattle.std.specs.Prelude.{◌≡◌, length, get_or};
+ghost use Rattle.std.specs.Prelude.{◌≡◌};
 ghost use Rattle.lists.specs.Tests.{all};
 ghost use Rattle.model.specs.Numbers.{refused_by};
-ghost use Rattle.model.specs.Counters.{is_number, every_number, listed};
+ghost use Rattle.model.specs.Counters.{is_number, listed};
 ghost use Rattle.number_lists.specs.Items.{items_in, low_six_number, asks_all, list_refusal};
 
 use model::Refusal;
 
+// All sixteen numbers.
+pub const EVERY: [u8; 16] = [1, 2, 3, 4, 5, 6, 7, 8, 9, 10, 11, 12, 13, 14, 15, 16];
+
 // Whether n bytes are 1 to 12 items of w bytes each, and nothing over.
+#[tactic(auto, unfolding(crate::specs::Items::items_in, lists::specs::Tests::within))]
 pub fn items_of(w: usize, n: usize) -> bool
     ensures { result ≡ items_in w n }
 {
-    w != 0 && (n % w == 0) & ((1 <= n / w) & (n / w <= 12))
+    w != 0 && n % w == 0 && (1..=12).contains(&(n / w))
 }
 
 // Whether n is the number of an input or an output, 1 to 16.
+#[tactic(auto, unfolding(lists::specs::Tests::within))]
 pub fn is_number(n: u8) -> bool
     ensures { result ≡ is_number n }
 {
-    (1 <= n) & (n <= 16)
+    (1..=16).contains(&n)
 }
 
 // Whether every byte is one.
@@ -38,42 +43,26 @@ pub fn all_low_six(d: &[u8]) -> bool
 }
 
 // Whether the list is a single 00, which stands for all.
+#[tactic(auto, unfolding(crate::specs::Items::asks_all))]
 pub fn is_all(d: &[u8]) -> bool
     ensures { result ≡ asks_all d.now }
 {
-    d.len() == 1 && d[0] == 0
+    matches!(d, [0])
 }
 
-// The number at a place of all sixteen, or 0 past the end.
-pub fn number_at(i: usize) -> u8
-    ensures { result ≡ get_or every_number i 0 }
+// The numbers that a list read names.
+#[tactic(auto, unfolding(model::specs::Counters::listed, crate::specs::Items::asks_all))]
+pub fn listed(d: &[u8]) -> &[u8]
+    ensures { result.now ≡ listed d.now }
 {
-    if i < 16 { (i as u8) + 1 } else { 0 }
-}
-
-// How many numbers a list read names.
-pub fn listed_count(d: &[u8]) -> usize
-    ensures { result ≡ length (listed d.now) }
-{
-    if is_all(d) { 16 } else { d.len() }
-}
-
-// The number at a place of those, or 0 past the end.
-pub fn listed_at(d: &[u8], i: usize) -> u8
-    ensures { result ≡ get_or (listed d.now) i 0 }
-{
-    if is_all(d) {
-        number_at(i)
-    } else {
-        encoding::at(d, i)
-    }
+    if is_all(d) { &EVERY } else { d }
 }
 
 // Whether a list read names numbers only.
 pub fn all_listed(d: &[u8]) -> bool
     ensures { result ≡ all is_number (listed d.now) }
 {
-    is_all(d) || all_numbers(d)
+    all_numbers(listed(d))
 }
 
 // Why a list read is refused.

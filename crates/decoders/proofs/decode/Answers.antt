@@ -7,7 +7,7 @@ use Rattle.decoders.proofs.decode.Goals as goal
 
 pub loop-j-preserved : goal.loop-j-preserved
 loop-j-preserved g c all long gives =
-    rw (c.add-es.ensures, gives c.loop-j.j c.entry_at.result c.loop-j-test.true c.entry_at.ensures)
+    rw (c.push-es.ensures, gives c.loop-j.j c.entry_at.result c.loop-j-test.true c.entry_at.ensures)
     (each_goes entry_added c.loop-j.es all (sym long) c.loop-j.j (entry 0 0) c.loop-j-test.true ∙ c.loop-j.invariant all long gives)
 
 pub returns : goal.returns
