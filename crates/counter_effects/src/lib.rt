@@ -16,6 +16,7 @@ use lists::{Data, Entry};
 use model::Refusal;
 
 // Whether a deduction has the number of an input and is at most its counter.
+#[tactic(auto, unfolding(model::specs::Counters::deductible))]
 fn is_covered(cs: [u32; 16], e: Entry) -> bool
     ensures { result ≡ deductible cs e }
 {
@@ -24,15 +25,16 @@ fn is_covered(cs: [u32; 16], e: Entry) -> bool
 }
 
 // The counters after a deduction.
-fn deduct_one(cs: [u32; 16], e: Entry) -> [u32; 16]
-    ensures { result ≡ deduct_one cs e }
+#[tactic(auto, unfolding(model::specs::Counters::deduct_one))]
+fn deduct_one(cs: [u32; 16], e: &Entry) -> [u32; 16]
+    ensures { result ≡ deduct_one cs e.now }
 {
-    let k = entries::place(e);
+    let k = entries::place(*e);
     let have = encoding::element(&cs, k, 0);
     encoding::with_element(cs, k, have.saturating_sub(e.value))
 }
 
-// Why deductions are refused: each must be covered.
+// Why deductions are refused: each must be covered. The judges differ in their test, and say it by `all` and `refused_if` alone.
 pub fn deduct_refusal(cs: [u32; 16], es: &[Entry]) -> Result<(), Refusal>
     ensures { refused_by result ≡ refusal_of (deduct es.now cs) }
 {
@@ -44,12 +46,7 @@ pub fn deduct_refusal(cs: [u32; 16], es: &[Entry]) -> Result<(), Refusal>
 pub fn deduct(cs: [u32; 16], es: &[Entry]) -> [u32; 16]
     ensures { result ≡ foldl deduct_one cs es.now }
 {
-    let mut copy = cs;
-    for e in es {
-        let next = deduct_one(copy, *e);
-        copy = next;
-    }
-    copy
+    es.iter().fold(cs, deduct_one)
 }
 
 // Why values written to counters are refused: a counter can only be cleared.
@@ -61,29 +58,26 @@ pub fn clear_refusal(es: &[Entry]) -> Result<(), Refusal>
 }
 
 // The counters with the one that is named at 0.
-fn clear_one(cs: [u32; 16], e: Entry) -> [u32; 16]
-    ensures { result ≡ clear_one cs e }
+#[tactic(auto, unfolding(model::specs::Registers::clear_one))]
+fn clear_one(cs: [u32; 16], e: &Entry) -> [u32; 16]
+    ensures { result ≡ clear_one cs e.now }
 {
-    encoding::with_element(cs, entries::place(e), 0)
+    encoding::with_element(cs, entries::place(*e), 0)
 }
 
 // The counters with each that is named at 0.
 pub fn clear(cs: [u32; 16], es: &[Entry]) -> [u32; 16]
     ensures { result ≡ foldl clear_one cs es.now }
 {
-    let mut copy = cs;
-    for e in es {
-        let next = clear_one(copy, *e);
-        copy = next;
-    }
-    copy
+    es.iter().fold(cs, clear_one)
 }
 
-// The modes after a setting.
-fn set_mode(ms: [u8; 16], e: Entry) -> [u8; 16]
-    ensures { result ≡ set_mode_byte ms e }
+// The modes after a setting. A mode is a byte and no enum: any may be stored, and 6BH and registers 300 up show it so.
+#[tactic(auto, unfolding(crate::specs::Answers::set_mode_byte, model::specs::Counters::set_mode))]
+fn set_mode(ms: [u8; 16], e: &Entry) -> [u8; 16]
+    ensures { result ≡ set_mode_byte ms e.now }
 {
-    encoding::with_element(ms, entries::place(e), entries::byte(e))
+    encoding::with_element(ms, entries::place(*e), entries::byte(*e))
 }
 
 // Why settings of modes are refused, whatever the modes.
@@ -98,15 +92,11 @@ pub fn modes_refusal(es: &[Entry]) -> Result<(), Refusal>
 pub fn set_modes(ms: [u8; 16], es: &[Entry]) -> [u8; 16]
     ensures { result ≡ foldl set_mode_byte ms es.now }
 {
-    let mut copy = ms;
-    for e in es {
-        let next = set_mode(copy, *e);
-        copy = next;
-    }
-    copy
+    es.iter().fold(ms, set_mode)
 }
 
 // 62H: why a sampling number is refused.
+#[tactic(auto, unfolding(model::specs::Counters::set_sampling, model::specs::Refusals::refusal_of, lists::specs::Tests::within))]
 pub fn sampling_refusal(d: &[u8]) -> Result<(), Refusal>
     ensures { refused_by result ≡ refusal_of (set_sampling d.now) }
 {
@@ -118,6 +108,6 @@ pub fn sampling_refusal(d: &[u8]) -> Result<(), Refusal>
 pub fn read_sampling(sampling: u8, d: &[u8]) -> Result<Data, Refusal>
     ensures { told result ≡ told_of (read_sampling d.now sampling) }
 {
-    encoding::refused_if(!d.is_empty(), Refusal::DataLength)?;
-    Ok(encoding::push(encoding::empty(), sampling))
+    encoding::no_data(d)?;
+    Ok(encoding::empty().push(sampling))
 }

@@ -15,6 +15,10 @@ use Rattle.model.proofs.Short.{counters_short}
 use Rattle.counter_reads.specs.declared.Collected.{Collected}
 use Rattle.counter_reads.specs.Reading.{asks_every, every_of, read_step, read_rest}
 use Rattle.number_lists.specs.Items.{low_six_number}
+use Rattle.number_lists.proofs.Lists.{items_length}
+
+-- the length of a list, in the words of its definition
+pub ruleset sizes = items_length
 
 -- one parameter after the other is all of them
 pub read_steps : (ps : List ℕ) (r : Collected) → foldl read_step r ps ≡ read_rest r ps

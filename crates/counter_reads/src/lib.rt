@@ -19,10 +19,8 @@ pub struct Collected {
     pub reply: Data,
 }
 
-// All sixteen numbers.
-const EVERY: [u8; 16] = [1, 2, 3, 4, 5, 6, 7, 8, 9, 10, 11, 12, 13, 14, 15, 16];
-
 // Whether there is a single parameter with number 0, which stands for all.
+#[tactic(auto, unfolding(crate::specs::Reading::asks_every))]
 fn asks_every(d: &[u8]) -> bool
     ensures { result ≡ asks_every d.now }
 {
@@ -30,6 +28,7 @@ fn asks_every(d: &[u8]) -> bool
 }
 
 // Whether every parameter names an input.
+#[tactic(auto, using(crate::proofs::Readings::named_own, crate::proofs::Readings::named_law))]
 fn all_named(d: &[u8]) -> bool
     ensures { result ≡ all low_six_number (parameters d.now) }
 {
@@ -41,13 +40,14 @@ fn every_of(p: u8) -> [u8; 16]
     ensures { result ≡ every_of p }
 {
     if p < 128 {
-        EVERY
+        number_lists::EVERY
     } else {
-        EVERY.map(|n| n | 128)
+        number_lists::EVERY.map(|n| n | 128)
     }
 }
 
 // The counters after one parameter: where it has bit 7, the one read is zeroed.
+#[tactic(auto, unfolding(model::specs::Counters::read_one))]
 fn collect_one(cs: [u32; 16], p: u8) -> [u32; 16]
     ensures { result ≡ read_one cs p }
 {
@@ -59,6 +59,7 @@ fn collect_one(cs: [u32; 16], p: u8) -> [u32; 16]
 }
 
 // One parameter: its counter is read as the copy stood before it.
+#[tactic(auto, unfolding(crate::specs::Reading::read_step))]
 fn read_one(r: Collected, p: u8) -> Collected
     ensures { result ≡ read_step r p }
 {
@@ -69,12 +70,13 @@ fn read_one(r: Collected, p: u8) -> Collected
 }
 
 // Before the first parameter: 20H, the counters' width in bits.
+#[tactic(auto, using(lists::proofs::DataLaws::push_law))]
 fn read_start(cs: [u32; 16]) -> Collected
     ensures { result ≡ read_start cs }
 {
     Collected {
         counters: cs,
-        reply: encoding::push(encoding::empty(), 32),
+        reply: encoding::empty().push(32),
     }
 }
 
@@ -86,6 +88,7 @@ fn read_each(cs: [u32; 16], ps: &[u8]) -> Collected
 }
 
 // 60H: why it is refused, whatever the counters.
+#[tactic(auto, using(crate::proofs::Readings::sizes), unfolding(model::specs::Counters::read_counters, model::specs::Refusals::refusal_of))]
 pub fn read_refusal(d: &[u8]) -> Result<(), Refusal>
     ensures { (cs : List ℕ) → refused_by result ≡ refusal_of (read_counters d.now cs) }
 {
@@ -94,6 +97,7 @@ pub fn read_refusal(d: &[u8]) -> Result<(), Refusal>
 }
 
 // 60H: read, and collect.
+#[tactic(auto, using(crate::proofs::Readings::named_every, crate::proofs::Readings::named_own))]
 pub fn collect(cs: [u32; 16], d: &[u8]) -> Collected
     ensures { result ≡ read_rest (read_start cs) (parameters d.now) }
 {

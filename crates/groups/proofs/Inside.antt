@@ -1,30 +1,13 @@
 -- What it means that a range lies in its group. Assumes nothing.
-use Prim.Native.Nat.{ℕ, ◌+◌, ◌-◌, ◌%◌, ◌<◌, ◌≤◌}
+use Prim.Native.Nat.{ℕ, ◌+◌, ◌-◌, ◌%◌, ◌≤◌}
 use native.Mathlib.Omega.{arith}
-use mathlib.Core.Path.{◌≡◌, refl, ap}
-use mathlib.Core.Bool.{Bool, true, false, not, ◌&&◌, ◌||◌, or-true}
+use mathlib.Core.Path.{◌≡◌, refl}
+use mathlib.Core.Bool.{Bool, true, false, not, ◌&&◌}
 use lib.Dec.{ltb, eqb}
-use borrow.Author.Tests.{lt-ltb, le-ltb, ltb-true, ltb-false, eqb-true, eqb-false}
+use borrow.Author.Tests.{ltb-false, eqb-true, eqb-false}
 use Rattle.lists.proofs.Choices.{or_left, or_right}
 use Rattle.model.specs.declared.Group.{Group}
 use Rattle.model.specs.Registers.{thermostat_group, outside, no_thermostat}
-
-module _ (g : Group) (a n : ℕ) where
-  -- it begins before the group
-  pub out_before : a < g.first → outside g a n ≡ true
-  out_before h = rw (lt-ltb a g.first h) (or-true (eqb n 0))
-
-  -- it ends behind the group
-  pub out_behind : g.first ≤ a → g.first + g.count < a + n → outside g a n ≡ true
-  out_behind l h = rw (le-ltb a g.first l, lt-ltb (g.first + g.count) (a + n) h) (or-true (eqb n 0))
-
-  -- seen from the register on
-  pub out_rest : g.first ≤ a → a ≤ g.first + g.count → (eqb n 0 || ltb (g.first + g.count - a) n) ≡ outside g a n
-  out_rest l m = rw (le-ltb a g.first l) (ap (eqb n 0 ||◌) (go (ltb (g.first + g.count - a) n) refl))
-    where
-      go : (t : Bool) → ltb (g.first + g.count - a) n ≡ t → t ≡ ltb (g.first + g.count) (a + n)
-      go true e = rw (lt-ltb (g.first + g.count) (a + n) (omega (arith, ltb-true (g.first + g.count - a) n e)))
-      go false e = rw (le-ltb (g.first + g.count) (a + n) (omega (arith, ltb-false (g.first + g.count - a) n e)))
 
 -- both ends of a range that lies in its group, and that it is not empty
 pub record Inside (g : Group) (a n : ℕ) : Type 0 where

@@ -51,13 +51,7 @@ pub fn is_outside(g: Group, a: u16, n: usize) -> bool
     let first = usize::from(g.first);
     let end = first + usize::from(g.count);
     let at = usize::from(a);
-    if at < first {
-        return true;
-    }
-    if end < at {
-        return true;
-    }
-    (n == 0) | (end - at < n)
+    n == 0 || !(first..=end).contains(&at) || end - at < n
 }
 
 // How far register a stands behind the group's first.
@@ -78,8 +72,5 @@ pub fn number(g: Group, a: u16) -> usize
 pub fn no_thermostat(a: u16, n: usize) -> bool
     ensures { result ≡ no_thermostat a n }
 {
-    if is_outside(THERMOSTATS, a, n) {
-        return true;
-    }
-    (n != 4) | (place(THERMOSTATS, a) % 4 != 0)
+    is_outside(THERMOSTATS, a, n) || n != 4 || place(THERMOSTATS, a) % 4 != 0
 }

@@ -1,4 +1,4 @@
-// What a thermostat's flags say, and whether it holds its output. They are FSSKTTTT; nothing else reads them.
+// What a thermostat's flags say, and whether it holds its output. They are FSSKTTTT; elsewhere they are only stored and shown.
 #![tactic(auto)]
 
 ghost use Rattle.std.specs.Prelude.{◌≡◌};
@@ -57,12 +57,13 @@ pub fn setting_shown(h: Thermostat) -> u8
 }
 
 // Whether a thermostat leaves its output to commands.
+#[tactic(auto, unfolding(model::specs::Temperature::free))]
 pub fn is_free(r: Reading, h: Thermostat) -> bool
     ensures { result ≡ free r h }
 {
     let off = !is_active(h);
     match r {
-        Reading::Valid(t, _) => off | ((h.tempy <= t) & (t <= h.tempx)),
+        Reading::Valid(t, _) => off | (h.tempy..=h.tempx).contains(&t),
         Reading::Fault => off,
     }
 }

@@ -49,6 +49,7 @@ fn notice_unfit(d: &[u8], n: Notice) -> bool
 }
 
 // 10H: why it is refused, whatever its signature.
+#[tactic(auto, unfolding(model::specs::Notice::set_notice, model::specs::Refusals::refusal_of))]
 pub fn notice_refusal(d: &[u8], n: Notice) -> Result<(), Refusal>
     ensures { (signature : ℕ) → refused_by result ≡ refusal_of (set_notice signature d.now n) }
 {
@@ -57,6 +58,7 @@ pub fn notice_refusal(d: &[u8], n: Notice) -> Result<(), Refusal>
 }
 
 // 10H: the notice on, with its mask and the request's signature, or off.
+#[tactic(auto, unfolding(model::specs::Notice::set_notice))]
 pub fn notice_set(signature: u8, d: &[u8], n: Notice) -> Notice
     ensures { result ≡ (set_notice signature d.now n).after }
 {
@@ -79,25 +81,26 @@ pub fn notice_set(signature: u8, d: &[u8], n: Notice) -> Notice
 pub fn read_notice(d: &[u8], n: Notice) -> Result<Data, Refusal>
     ensures { told result ≡ told_of (read_notice d.now n) }
 {
-    encoding::refused_if(!d.is_empty(), Refusal::DataLength)?;
-    Ok(encoding::push16(encoding::push(encoding::empty(), n.format), n.mask))
+    encoding::no_data(d)?;
+    Ok(encoding::push16(encoding::empty().push(n.format), n.mask))
 }
 
 // F0H: address and speed.
 pub fn read_port(d: &[u8], p: Port) -> Result<Data, Refusal>
     ensures { told result ≡ told_of (read_port d.now p) }
 {
-    encoding::refused_if(!d.is_empty(), Refusal::DataLength)?;
-    Ok(encoding::push(encoding::push(encoding::empty(), p.address), p.speed))
+    encoding::no_data(d)?;
+    Ok(encoding::empty().push(p.address).push(p.speed))
 }
 
 // Registers 1 and 2 --------------------------------------------------------------------------
 
 // A port with its address set, for register 1, or its speed.
-fn set_field(p: Port, e: Entry) -> Port
-    ensures { result ≡ set_port_byte p e }
+#[tactic(auto, unfolding(crate::specs::Parts::set_port_byte, model::specs::Registers::set_port_field))]
+fn set_field(p: Port, e: &Entry) -> Port
+    ensures { result ≡ set_port_byte p e.now }
 {
-    let v = entries::byte(e);
+    let v = entries::byte(*e);
     if e.number == 1 {
         Port { address: v, ..p }
     } else {
@@ -117,5 +120,5 @@ pub fn fields_refusal(es: &[Entry]) -> Result<(), Refusal>
 pub fn set_fields(p: Port, es: &[Entry]) -> Port
     ensures { result ≡ foldl set_port_byte p es.now }
 {
-    es.iter().fold(p, |copy, e| set_field(copy, *e))
+    es.iter().fold(p, set_field)
 }

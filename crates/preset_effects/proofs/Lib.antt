@@ -1,1 +1,1 @@
-pub mod Triples
+pub mod Lengths

@@ -12,9 +12,11 @@ ghost use Rattle.model.specs.Refusals.{refusal_of};
 ghost use Rattle.model.specs.Temperature.{free_at};
 ghost use Rattle.model.specs.Outputs.{preset_settable, set_preset, set_presets, preset_of, start_preset, preset_ready, start_presets};
 
-use model::{HalfSeconds, Output, Preset, Reading, Refusal, Thermostat};
+use model::{HalfSeconds, Output, Preset, Refusal};
+use output_effects::Holders;
 
-// The preset of a number; 0, which is refused before, is taken for 1, and behind the last stands a fresh one.
+// The preset of a number; 0, which is refused before, is taken for 1, and behind the last stands a fresh one. `element` is what
+// this has in common with `output_effects::thermostat_at`.
 pub fn preset_at(ps: [Preset; 16], n: u8) -> Preset
     ensures { result ≡ preset_of ps n }
 {
@@ -22,6 +24,7 @@ pub fn preset_at(ps: [Preset; 16], n: u8) -> Preset
 }
 
 // Whether preset n can be started: one of type 0 cannot.
+#[tactic(auto, unfolding(model::specs::Outputs::preset_ready))]
 fn is_ready(ps: [Preset; 16], n: u8) -> bool
     ensures { result ≡ preset_ready ps n }
 {
@@ -37,28 +40,24 @@ fn all_ready(ps: [Preset; 16], d: &[u8]) -> bool
 }
 
 // Whether no output of the list is held.
-fn all_free(r: Reading, hs: [Thermostat; 16], d: &[u8]) -> bool
-    ensures { result ≡ all (free_at r hs) d.now }
+fn all_free(holders: &Holders, d: &[u8]) -> bool
+    ensures { result ≡ all (free_at holders.now.reading holders.now.thermostats) d.now }
 {
-    d.iter()
-        .all(|n| output_effects::is_free(r, hs, usize::from(*n)))
+    d.iter().all(|n| holders.is_free(usize::from(*n)))
 }
 
 // 25H: why presets are not started, whatever the outputs.
-pub fn start_refusal(
-    ps: [Preset; 16],
-    r: Reading,
-    hs: [Thermostat; 16],
-    d: &[u8],
-) -> Result<(), Refusal>
-    ensures { (os : List OutputOf) → refused_by result ≡ refusal_of (start_presets ps r hs d.now os) }
+#[tactic(auto, using(crate::proofs::Lengths::lengths), unfolding(model::specs::Outputs::start_presets, model::specs::Refusals::refusal_of))]
+pub fn start_refusal(ps: [Preset; 16], holders: &Holders, d: &[u8]) -> Result<(), Refusal>
+    ensures { (os : List OutputOf) → refused_by result ≡ refusal_of (start_presets ps holders.now.reading holders.now.thermostats d.now os) }
 {
     encoding::refused_if(!number_lists::items_of(1, d.len()), Refusal::DataLength)?;
     encoding::refused_if(!all_ready(ps, d), Refusal::Value)?;
-    encoding::refused_if(!all_free(r, hs, d), Refusal::Held)
+    encoding::refused_if(!all_free(holders, d), Refusal::Held)
 }
 
 // Preset n started: type 2 is on first.
+#[tactic(auto, unfolding(model::specs::Outputs::start_preset))]
 fn start_preset(ps: [Preset; 16], os: [Output; 16], n: u8) -> [Output; 16]
     ensures { result ≡ start_preset ps os n }
 {
@@ -71,15 +70,17 @@ fn start_preset(ps: [Preset; 16], os: [Output; 16], n: u8) -> [Output; 16]
 pub fn start(ps: [Preset; 16], os: [Output; 16], d: &[u8]) -> [Output; 16]
     ensures { result ≡ foldl (start_preset ps) os d.now }
 {
-    let mut copy = os;
-    for n in d {
-        let next = start_preset(ps, copy, *n);
-        copy = next;
-    }
-    copy
+    d.iter().fold(
+        os,
+        |copy, n|
+            ensures { result ≡ start_preset ps copy n.now }
+        { start_preset(ps, copy, *n) },
+    )
 }
 
 // Whether a triple of output, type and time can be set: type 0, or 2 or 3 with a time of 1 to 255.
+// The type is judged as the byte that is stored, for the reason at `model::Preset`.
+#[tactic(auto, unfolding(model::specs::Outputs::preset_settable, lists::specs::Tests::within))]
 fn is_settable(t: &[u8]) -> bool
     ensures { result ≡ preset_settable t.now }
 {
@@ -97,6 +98,7 @@ fn all_settable(d: &[u8]) -> bool
 }
 
 // 26H: why triples are not set, whatever the presets.
+#[tactic(auto, using(crate::proofs::Lengths::lengths), unfolding(model::specs::Outputs::set_presets, model::specs::Refusals::refusal_of))]
 pub fn presets_refusal(d: &[u8]) -> Result<(), Refusal>
     ensures { (ps : List PresetOf) → refused_by result ≡ refusal_of (set_presets d.now ps) }
 {
@@ -105,6 +107,7 @@ pub fn presets_refusal(d: &[u8]) -> Result<(), Refusal>
 }
 
 // The presets after one triple.
+#[tactic(auto, unfolding(model::specs::Outputs::set_preset))]
 fn set_preset(ps: [Preset; 16], t: &[u8]) -> [Preset; 16]
     ensures { result ≡ set_preset ps t.now }
 {
@@ -120,10 +123,5 @@ fn set_preset(ps: [Preset; 16], t: &[u8]) -> [Preset; 16]
 pub fn set_presets(ps: [Preset; 16], d: &[u8]) -> [Preset; 16]
     ensures { result ≡ foldl set_preset ps (chunks 3 d.now) }
 {
-    let mut copy = ps;
-    for t in d.chunks_exact(3) {
-        let next = set_preset(copy, t);
-        copy = next;
-    }
-    copy
+    d.chunks_exact(3).fold(ps, set_preset)
 }

@@ -8,6 +8,7 @@ ghost use Rattle.model.specs.Registers.{port_settable, is_zero};
 use lists::Entry;
 
 // An input that there is, and a mode.
+#[tactic(auto, unfolding(model::specs::Counters::mode_settable))]
 pub fn is_mode_setting(e: Entry) -> bool
     ensures { result ≡ mode_settable e }
 {
@@ -15,6 +16,7 @@ pub fn is_mode_setting(e: Entry) -> bool
 }
 
 // A 0, the only value that a counter can be set to.
+#[tactic(auto, unfolding(model::specs::Registers::is_zero))]
 pub fn is_zero(e: Entry) -> bool
     ensures { result ≡ is_zero e }
 {
@@ -22,13 +24,14 @@ pub fn is_zero(e: Entry) -> bool
 }
 
 // An address for register 1, else a speed.
+#[tactic(auto, unfolding(model::specs::Registers::port_settable, lists::specs::Tests::within))]
 pub fn is_port_field(e: Entry) -> bool
     ensures { result ≡ port_settable e }
 {
     if e.number == 1 {
-        (1 <= e.value) & (e.value <= 247)
+        (1..=247).contains(&e.value)
     } else {
-        (3 <= e.value) & (e.value <= 10)
+        (3..=10).contains(&e.value)
     }
 }
 

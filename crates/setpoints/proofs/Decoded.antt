@@ -1,18 +1,17 @@
 -- Setpoints by their places in the bytes. Assumes nothing.
-use Prim.Native.Nat.{ℕ, ◌+◌, ◌*◌, ◌/◌, ◌%◌, ◌<◌, ◌≤◌, min}
+use Prim.Native.Nat.{ℕ, ◌+◌, ◌/◌, ◌%◌, ◌<◌, ◌≤◌}
 use native.Mathlib.Omega.{arith}
 use native.Mathlib.Nat.{mod-eq_of_lt}
 use mathlib.Core.Path.{◌≡◌, sym, ◌∙◌}
 use mathlib.Core.Bool.{true, false}
 use mathlib.Core.List.{List, map}
 use lib.Dec.{eqb}
-use lib.ListN.{length, get_or, take, drop, length-take, length-map}
-use lib.Seq.{take_all, take-append_seam, get_or-take}
+use lib.ListN.{length, get_or, take, length-map}
+use lib.Seq.{take_all, take-append_seam}
 use Rattle.lists.specs.Chunks.{chunks}
 use Rattle.lists.specs.Numbers.{word_at}
 use Rattle.lists.proofs.Choices.{and_right, or_left, within_high}
 use Rattle.lists.proofs.ChunkLaws.{length-chunks_of}
-use Rattle.lists.proofs.EntryLaws.{chunk_at}
 use Rattle.model.specs.Counters.{items_of}
 use Rattle.model.specs.Temperature.{group_thermostat}
 use Rattle.model.specs.Modbus.{words}
@@ -20,21 +19,11 @@ use Rattle.model.specs.Registers.{thermostat_group, outside, no_thermostat, plac
 use Rattle.groups.proofs.Inside.{inside, four}
 use Rattle.decoders.proofs.Places.{words_length, value_place}
 use Rattle.setpoints.specs.declared.Setpoint.{Setpoint}
-use Rattle.setpoints.specs.Setpoints.{setpoint, no_setpoint, group_setpoint, register_setpoint, setpoints_of, setpoints_in}
+use Rattle.setpoints.specs.Setpoints.{setpoint, group_setpoint, register_setpoint, setpoints_of, setpoints_in}
 
-module _ (d : List ℕ) where
-  groups_length : length (map group_setpoint (chunks 8 d)) ≡ length d / 8
-  unfolding chunks
-  groups_length = length-map (chunks 8 d) group_setpoint ∙ length-chunks_of 8 (length d / 8) d
-
-  pub twelve_length : length (take 12 (map group_setpoint (chunks 8 d))) ≡ min 12 (length d / 8)
-  twelve_length = rw (length-take, groups_length)
-
-  -- the group at a place of the first twelve
-  pub group_place : (j : ℕ) → j < length d / 8 → j < 12 → group_setpoint (take 8 (drop (8 * j) d)) ≡ get_or (take 12 (map group_setpoint (chunks 8 d))) j no_setpoint
-  unfolding chunks
-  group_place j h k =
-      sym (get_or-take 12 (map group_setpoint (chunks 8 d)) j no_setpoint k ∙ chunk_at group_setpoint 8 (length d / 8) d j no_setpoint h)
+groups_length : (d : List ℕ) → length (map group_setpoint (chunks 8 d)) ≡ length d / 8
+unfolding chunks
+groups_length d = length-map (chunks 8 d) group_setpoint ∙ length-chunks_of 8 (length d / 8) d
 
 -- what was decoded counts
 pub setpoints_in_lem : (l : List Setpoint) → setpoints_in (setpoints_of l) ≡ l

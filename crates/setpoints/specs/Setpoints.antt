@@ -1,11 +1,12 @@
 -- Setpoints: what either port's bytes say of one thermostat, and such by value.
-use Rattle.std.specs.Prelude.{ℕ, ◌+◌, ◌%◌, List, ◌++◌, length, get_or, take, drop, replicate}
+use Rattle.std.specs.Prelude.{ℕ, ◌+◌, ◌%◌, List, length, get_or, take}
 use Rattle.model.specs.declared.Thermostat.{Thermostat}
 use Rattle.model.specs.State.{fresh_thermostat}
 use Rattle.model.specs.Registers.{place_of}
 use Rattle.model.specs.Temperature.{group_thermostat}
 use Rattle.setpoints.specs.declared.Setpoint.{Setpoint}
 use Rattle.lists.specs.declared.Bounded.{Bounded}
+use Rattle.lists.specs.Data.{filled}
 
 abbrev pub Setpoints : Type 0
 Setpoints = Bounded Setpoint 12
@@ -28,7 +29,7 @@ no_setpoint = setpoint 0 fresh_thermostat
 
 -- the setpoints l, and empty ones to twelve
 unfoldable pub setpoints_of : List Setpoint → Setpoints
-setpoints_of l = record { items = l ++ drop (length l) (replicate 12 no_setpoint); len = length l }
+setpoints_of l = record { items = filled 12 no_setpoint l; len = length l }
 
 -- the setpoints that count
 abbrev pub setpoints_in : Setpoints → List Setpoint

@@ -27,6 +27,7 @@ impl Setpoint {
 pub type Setpoints = Bounded<Setpoint, 12>;
 
 // The settings in a group's eight bytes, the first aside.
+#[tactic(auto, unfolding(model::specs::Temperature::group_thermostat))]
 fn settings_in(c: &[u8]) -> Thermostat
     ensures { result ≡ group_thermostat c.now }
 {
@@ -40,6 +41,7 @@ fn settings_in(c: &[u8]) -> Thermostat
 }
 
 // A group: the output, then its settings.
+#[tactic(auto, unfolding(crate::specs::Setpoints::group_setpoint))]
 fn group_in(c: &[u8]) -> Setpoint
     ensures { result ≡ group_setpoint c.now }
 {
@@ -48,26 +50,29 @@ fn group_in(c: &[u8]) -> Setpoint
     Setpoint { number, thermostat }
 }
 
-// 1AH: its groups in turn; those after the twelfth are passed by.
+// No setpoints.
+#[tactic(auto, unfolding(crate::specs::Setpoints::setpoints_of))]
+fn none() -> Setpoints
+    ensures { result ≡ setpoints_of [] }
+{
+    Setpoints::empty(Setpoint::FRESH)
+}
+
+// 1AH: its groups in turn; those after the twelfth are passed by, since the list is full.
 pub fn from_groups(d: &[u8]) -> Setpoints
     ensures { result ≡ setpoints_of (take 12 (map group_setpoint (chunks 8 d.now))) }
 {
-    let len = (d.len() / 8).min(12);
-    let mut items = [Setpoint::FRESH; 12];
-    for j in 0..len {
-        items[j] = group_in(&d[8 * j..8 * j + 8]);
-    }
-    Setpoints { items, len }
+    d.chunks_exact(8)
+        .fold(none(), |list, group| list.push(group_in(group)))
 }
 
 // Registers 600 up: the four from a on, for the thermostat that they belong to.
+#[tactic(auto, unfolding(crate::specs::Setpoints::register_setpoint, crate::specs::Setpoints::setpoints_of, lists::specs::Bounded::added))]
 pub fn from_registers(a: u16, d: &[u8]) -> Setpoints
     ensures { result ≡ setpoints_of (register_setpoint a d.now ∷ []) }
 {
     let place = groups::place(groups::THERMOSTATS, a) / 4;
     let number = ((place + 1) % 256) as u8;
     let thermostat = settings_in(d);
-    let mut items = [Setpoint::FRESH; 12];
-    items[0] = Setpoint { number, thermostat };
-    Setpoints { items, len: 1 }
+    none().push(Setpoint { number, thermostat })
 }

@@ -26,6 +26,7 @@ fn is_timed(h: Thermostat) -> bool
 }
 
 // Whether a thermostat's settings are allowed.
+#[tactic(auto, unfolding(model::specs::Temperature::thermostat_fits))]
 fn fits(h: Thermostat) -> bool
     ensures { result ≡ thermostat_fits h }
 {
@@ -34,8 +35,9 @@ fn fits(h: Thermostat) -> bool
 }
 
 // Whether a setpoint has the number of an output and settings that are allowed.
-fn setpoint_fits(e: Setpoint) -> bool
-    ensures { result ≡ setpoint_fits e }
+#[tactic(auto, unfolding(crate::specs::Parts::setpoint_fits))]
+fn setpoint_fits(e: &Setpoint) -> bool
+    ensures { result ≡ setpoint_fits e.now }
 {
     number_lists::is_number(e.number) & fits(e.thermostat)
 }
@@ -44,7 +46,7 @@ fn setpoint_fits(e: Setpoint) -> bool
 fn all_fit(es: &[Setpoint]) -> bool
     ensures { result ≡ all setpoint_fits es.now }
 {
-    es.iter().all(|e| setpoint_fits(*e))
+    es.iter().all(setpoint_fits)
 }
 
 // Why setpoints are refused.
@@ -55,8 +57,9 @@ pub fn thermostats_refusal(es: &[Setpoint]) -> Result<(), Refusal>
 }
 
 // The thermostats after a setpoint.
-fn put(hs: [Thermostat; 16], e: Setpoint) -> [Thermostat; 16]
-    ensures { result ≡ setpoint_put hs e }
+#[tactic(auto, unfolding(crate::specs::Parts::setpoint_put))]
+fn put(hs: [Thermostat; 16], e: &Setpoint) -> [Thermostat; 16]
+    ensures { result ≡ setpoint_put hs e.now }
 {
     encoding::with_element(hs, encoding::index_of(e.number), e.thermostat)
 }
@@ -65,12 +68,7 @@ fn put(hs: [Thermostat; 16], e: Setpoint) -> [Thermostat; 16]
 pub fn set_thermostats(hs: [Thermostat; 16], es: &[Setpoint]) -> [Thermostat; 16]
     ensures { result ≡ foldl setpoint_put hs es.now }
 {
-    let mut copy = hs;
-    for e in es {
-        let next = put(copy, *e);
-        copy = next;
-    }
-    copy
+    es.iter().fold(hs, put)
 }
 
 // The reading -----------------------------------------------------------------------------
@@ -82,13 +80,11 @@ fn show_reading(r: Reading) -> Data
     match r {
         Reading::Valid(t, _) => {
             encoding::push16(
-                encoding::push(encoding::push(encoding::empty(), 1), 0x80),
+                encoding::empty().push(1).push(0x80),
                 encoding::pattern_of(t),
             )
         }
-        Reading::Fault => {
-            encoding::push16(encoding::push(encoding::push(encoding::empty(), 1), 0), 0)
-        }
+        Reading::Fault => { encoding::push16(encoding::empty().push(1).push(0), 0) }
     }
 }
 

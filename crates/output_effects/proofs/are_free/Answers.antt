@@ -10,5 +10,5 @@ use Rattle.output_effects.proofs.are_free.Goals as goal
 
 pub returns : goal.returns
 returns c =
-    let test = (λ (e : Entry). free_at c.args.r c.args.hs e.number) in
+    let test = (λ (e : Entry). free_at c.args.holders.now.reading c.args.holders.now.thermostats e.number) in
     all_from_yields_List test _ _ _ c.all.ensures.ran (YieldsList-from_slice c.args.es.now cc) (λ x b q k. search (rules, tests)) ∙ all_same test c.args.es.now

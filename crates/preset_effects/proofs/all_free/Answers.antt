@@ -9,5 +9,5 @@ use Rattle.preset_effects.proofs.all_free.Goals as goal
 
 pub returns : goal.returns
 returns c =
-    let test = free_at c.args.r c.args.hs in
+    let test = free_at c.args.holders.now.reading c.args.holders.now.thermostats in
     all_from_yields_List test _ _ _ c.all.ensures.ran (YieldsList-from_slice c.args.d.now cc) (λ x b q k. search (rules, tests)) ∙ all_same test c.args.d.now
