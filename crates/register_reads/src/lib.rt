@@ -21,20 +21,19 @@ fn show_words(words: &[u16]) -> Data
     ensures { result ≡ data_of (2 * length words.now ∷ flat_map (bytes 2) words.now) }
 {
     let count = (2 * words.len()) as u8;
-    let mut reply = encoding::push(encoding::empty(), count);
-    for word in words {
-        reply = encoding::push16(reply, *word);
-    }
-    reply
+    let head = encoding::empty().push(count);
+    words
+        .iter()
+        .fold(head, |reply, word| encoding::push16(reply, *word))
 }
 
-// n registers from `a` on, of a group that shows these words.
+// n registers from `a` on, of a group that shows these words. Start and quantity stay two parameters, as the definitions take them.
 fn tell_words(g: Group, words: &[u16], a: u16, n: u16) -> Result<Data, Refusal>
     requires whole { length words.now ≡ g.count }
     requires few { g.count ≤ 16 }
     ensures { told result ≡ told_of (read_words g words.now a n) }
 {
-    let count = n as usize;
+    let count = usize::from(n);
     encoding::refused_if(groups::is_outside(g, a, count), Refusal::Range)?;
     let k = groups::place(g, a);
     Ok(show_words(&words[k..k + count]))
@@ -44,7 +43,7 @@ fn tell_words(g: Group, words: &[u16], a: u16, n: u16) -> Result<Data, Refusal>
 pub fn read_counters(cs: [u32; 16], a: u16, n: u16) -> Result<Data, Refusal>
     ensures { told result ≡ told_of (read_words counter_group (map counter_word cs) a n) }
 {
-    let words = cs.map(|c| encoding::low_word(c));
+    let words = cs.map(encoding::low_word);
     tell_words(groups::COUNTERS, &words, a, n)
 }
 
@@ -52,23 +51,24 @@ pub fn read_counters(cs: [u32; 16], a: u16, n: u16) -> Result<Data, Refusal>
 pub fn read_modes(ms: [u8; 16], a: u16, n: u16) -> Result<Data, Refusal>
     ensures { told result ≡ told_of (read_words mode_group ms a n) }
 {
-    let words = ms.map(|m| u16::from(m));
+    let words = ms.map(u16::from);
     tell_words(groups::MODES, &words, a, n)
 }
 
 // An output's word: FF or 00 for its state, then its remaining time.
+#[tactic(auto, unfolding(model::specs::Registers::output_word, lists::specs::Numbers::number))]
 pub fn output_word(o: Output) -> u16
     ensures { result ≡ output_word o }
 {
-    let time = outputs::remaining_time(o.left) as u16;
-    if o.on { 0xFF00 + time } else { time }
+    let state = if o.on { 0xFF } else { 0x00 };
+    encoding::be16(state, outputs::remaining_time(o.left))
 }
 
 // The same of each output.
 pub fn output_words(os: [Output; 16]) -> [u16; 16]
     ensures { result ≡ map output_word os }
 {
-    os.map(|o| output_word(o))
+    os.map(output_word)
 }
 
 // 500 to 515: outputs.
@@ -83,11 +83,12 @@ pub fn read_outputs(os: [Output; 16], a: u16, n: u16) -> Result<Data, Refusal>
 pub fn read_port(p: Port, a: u16, n: u16) -> Result<Data, Refusal>
     ensures { told result ≡ told_of (read_words port_group (port_words p) a n) }
 {
-    let words = [p.address as u16, p.speed as u16];
+    let words = [u16::from(p.address), u16::from(p.speed)];
     tell_words(groups::PORT, &words, a, n)
 }
 
 // Status, tenths and float of a reading.
+#[tactic(auto, unfolding(model::specs::Temperature::reading_words))]
 fn reading_words(reading: Reading) -> [u16; 4]
     ensures { result ≡ reading_words reading }
 {
@@ -111,21 +112,21 @@ pub fn read_input(reading: Reading, a: u16, n: u16) -> Result<Data, Refusal>
 // Thermostats ----------------------------------------------------------------------------
 
 // The four words of a thermostat.
+#[tactic(auto, unfolding(model::specs::Registers::thermostat_words, lists::specs::Numbers::number))]
 fn thermostat_words(h: Thermostat) -> [u16; 4]
     ensures { result ≡ thermostat_words h }
 {
-    let s = h.time;
     let x = encoding::pattern_of(h.tempx);
     let y = encoding::pattern_of(h.tempy);
-    let last = encoding::be16(s.0, h.err);
-    [h.flags as u16, x, y, last]
+    let last = encoding::be16(h.time.0, h.err);
+    [u16::from(h.flags), x, y, last]
 }
 
 // 600 to 663: one thermostat by its four registers.
 pub fn read_thermostat(hs: [Thermostat; 16], a: u16, n: u16) -> Result<Data, Refusal>
     ensures { told result ≡ told_of (read_thermostat hs a n) }
 {
-    encoding::refused_if(groups::no_thermostat(a, n as usize), Refusal::Range)?;
+    encoding::refused_if(groups::no_thermostat(a, usize::from(n)), Refusal::Range)?;
     let place = groups::place(groups::THERMOSTATS, a) / 4;
     let words = thermostat_words(encoding::element(&hs, place, Thermostat::FRESH));
     Ok(show_words(&words))

@@ -23,9 +23,8 @@ fn show_listed<F: Fn(u8, Data) -> Data>(d: &[u8], show: F) -> Data
     ensures { (bytes : ℕ → List ℕ) → Shows (F.post show) bytes → result ≡ extended (data_of []) (flat_map bytes (listed d.now)) }
 {
     let mut reply = encoding::empty();
-    for i in 0..number_lists::listed_count(d) {
-        let n = number_lists::listed_at(d, i);
-        reply = show(n, reply);
+    for n in number_lists::listed(d) {
+        reply = show(*n, reply);
     }
     reply
 }
@@ -95,9 +94,10 @@ pub fn output_bits(os: [Output; 16]) -> u16
 }
 
 // 30H of the outputs' states, 31H of the inputs': two bytes. The request has no data.
+#[tactic(auto, using(encoding::proofs::Telling::told_refused, encoding::proofs::Telling::told_answered, crate::proofs::States::states_gathered), unfolding(crate::specs::Answers::states_told, model::specs::Refusals::refusal_of))]
 pub fn read_states(d: &[u8], bits: u16) -> Result<Data, Refusal>
     ensures { told result ≡ states_told d.now bits }
 {
-    encoding::refused_if(!d.is_empty(), Refusal::DataLength)?;
+    encoding::no_data(d)?;
     Ok(encoding::push16(encoding::empty(), bits))
 }

@@ -12,7 +12,7 @@ pub returns-in_err-refused_if : goal.returns-in_err-refused_if
 unfolding read_words refusal_of
 returns-in_err-refused_if c =
     let e : c.from_residual.result ≡ Err c.in_err-refused_if.field-0.0 = search rules in
-    rw e (told_refused _ _ (rw c.is_outside.ensures at c.in_err-refused_if.ensures))
+    rw e (told_refused _ _ (rw (c.is_outside.ensures, c.from-count.ensures) at c.in_err-refused_if.ensures))
 
 pub returns : goal.returns
 unfolding read_words refusal_of
@@ -20,8 +20,8 @@ returns c =
     let s = c.args in
     let ws = s.words.now in
     let k = s.a - s.g.first in
-    let passed = rw c.is_outside.ensures at c.in_ok-refused_if.ensures in
+    let passed = rw (c.is_outside.ensures, c.from-count.ensures) at c.in_ok-refused_if.ensures in
     let i = inside s.g s.a s.n (passes _ 8 passed) in
     let fits : k + s.n ≤ length ws = omega (arith, i.begins, i.ends, c.requires.whole) in
     let size : k + s.n - k ≡ s.n = omega arith in
-    told_answered _ _ passed (rw (c.show_words.ensures, c.place-k.ensures, size, part_length ws k s.n fits))
+    told_answered _ _ passed (rw (c.show_words.ensures, c.place-k.ensures, c.from-count.ensures, size, part_length ws k s.n fits))

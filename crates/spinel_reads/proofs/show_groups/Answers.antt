@@ -1,5 +1,5 @@
 -- `spinel_reads::show_groups` meets its contract. Assumes nothing.
-use Rattle.std.proofs.Common.{rules, ◌≡◌, ◌∙◌, ap}
+use Rattle.std.proofs.Common.{rules, ◌≡◌}
 use Rattle.model.specs.Temperature.{group_shown}
 use Rattle.spinel_reads.specs.Shown.{all_if_none}
 use Rattle.spinel_reads.proofs.show_groups.Goals as goal

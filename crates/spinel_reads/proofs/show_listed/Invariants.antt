@@ -6,5 +6,5 @@ use Rattle.model.specs.Counters.{listed}
 use Rattle.spinel_reads.specs.Shown.{Shows}
 use Rattle.spinel_reads.proofs.show_listed.Given as goal
 
-abbrev pub invariant-loop-i : goal.invariant-loop-i
-invariant-loop-i g l = (bytes : ℕ → List ℕ) → Shows (goal.F-post g l.show) bytes → extended l.reply (flat_map bytes (drop l.i (listed l.d))) ≡ extended (data_of []) (flat_map bytes (listed l.d))
+abbrev pub invariant-loop-n : goal.invariant-loop-n
+invariant-loop-n g l = (bytes : ℕ → List ℕ) → Shows (goal.F-post g l.show) bytes → extended l.reply (flat_map bytes (drop l.n-index (listed l.d))) ≡ extended (data_of []) (flat_map bytes (listed l.d))
