@@ -12,6 +12,7 @@ use model::{Module, Refusal};
 use outcomes::Served;
 
 // 60H
+#[tactic(auto, using(crate::proofs::Lists::not_read, crate::proofs::Lists::read_done))]
 pub fn read_counters(m: Module, d: &[u8]) -> Result<Served, Refusal>
     ensures { outcome m result ≡ served_of (judged m (on_part (with_counters m) (read_counters d.now m.inputs.counters))) }
 {
@@ -24,6 +25,7 @@ pub fn read_counters(m: Module, d: &[u8]) -> Result<Served, Refusal>
 }
 
 // 61H of one byte: 00 clears all.
+#[tactic(auto, using(outcomes::proofs::Laws::refused_at, outcomes::proofs::Laws::done_at), unfolding(model::specs::Counters::clear_all, model::specs::Refusals::refusal_of))]
 fn clear_all(m: Module, b: u8) -> Result<Served, Refusal>
     ensures { outcome m result ≡ served_of (judged m (on_part (with_counters m) (clear_all b))) }
 {
@@ -32,6 +34,7 @@ fn clear_all(m: Module, b: u8) -> Result<Served, Refusal>
 }
 
 // 61H of other lengths: five bytes for each deduction, the input and the amount, no number twice.
+#[tactic(auto, using(crate::proofs::Lists::no_deductions, crate::proofs::Lists::named_again, crate::proofs::Lists::not_covered, crate::proofs::Lists::deducted))]
 fn deduct_listed(m: Module, d: &[u8]) -> Result<Served, Refusal>
     ensures { outcome m result ≡ served_of (judged m (on_part (with_counters m) (refuse 8 (not (items_of 5 d.now)) (refuse 13 (named_twice (entries 5 d.now)) (deduct (entries 5 d.now) m.inputs.counters))))) }
 {
@@ -45,6 +48,7 @@ fn deduct_listed(m: Module, d: &[u8]) -> Result<Served, Refusal>
 }
 
 // 61H
+#[tactic(auto, unfolding(model::specs::Counters::deduct_counters))]
 pub fn deduct_counters(m: Module, d: &[u8]) -> Result<Served, Refusal>
     ensures { outcome m result ≡ served_of (judged m (on_part (with_counters m) (deduct_counters d.now m.inputs.counters))) }
 {
@@ -56,6 +60,7 @@ pub fn deduct_counters(m: Module, d: &[u8]) -> Result<Served, Refusal>
 }
 
 // 62H
+#[tactic(auto, using(outcomes::proofs::Laws::refused_at, outcomes::proofs::Laws::done_at), unfolding(model::specs::Counters::set_sampling, model::specs::Refusals::refusal_of))]
 pub fn set_sampling(m: Module, d: &[u8]) -> Result<Served, Refusal>
     ensures { outcome m result ≡ served_of (judged m (on_part (with_sampling m) (set_sampling d.now))) }
 {
@@ -64,6 +69,7 @@ pub fn set_sampling(m: Module, d: &[u8]) -> Result<Served, Refusal>
 }
 
 // 63H
+#[tactic(auto, using(outcomes::proofs::Laws::told_law))]
 pub fn read_sampling(m: Module, d: &[u8]) -> Result<Served, Refusal>
     ensures { outcome m result ≡ served_of (judged m (reading m (read_sampling d.now m.settings.sampling))) }
 {
@@ -71,6 +77,7 @@ pub fn read_sampling(m: Module, d: &[u8]) -> Result<Served, Refusal>
 }
 
 // 6AH
+#[tactic(auto, using(crate::proofs::Lists::no_modes, crate::proofs::Lists::modes_unfit, crate::proofs::Lists::modes_done))]
 pub fn set_modes(m: Module, d: &[u8]) -> Result<Served, Refusal>
     ensures { outcome m result ≡ served_of (judged m (on_part (with_modes m) (set_modes_list d.now m.settings.modes))) }
 {
@@ -83,6 +90,7 @@ pub fn set_modes(m: Module, d: &[u8]) -> Result<Served, Refusal>
 }
 
 // 6BH
+#[tactic(auto, using(outcomes::proofs::Laws::told_law))]
 pub fn read_modes(m: Module, d: &[u8]) -> Result<Served, Refusal>
     ensures { outcome m result ≡ served_of (judged m (reading m (list_read (mode_shown m.settings.modes) d.now))) }
 {

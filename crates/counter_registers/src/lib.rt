@@ -12,6 +12,7 @@ use model::{Module, Refusal};
 use outcomes::Served;
 
 // Registers 100 to 115. One function for these and for the modes would take a group, two closures and their promises, which is no plainer.
+#[tactic(auto, using(crate::proofs::Writes::counters_outside, crate::proofs::Writes::counters_unfit, crate::proofs::Writes::counters_done))]
 pub fn write_counters(m: Module, a: u16, d: &[u8]) -> Result<Served, Refusal>
     ensures { outcome m result ≡ served_of (judged m (on_part (with_counters m) (write_counters a (words d.now) m.inputs.counters))) }
 {
@@ -25,6 +26,7 @@ pub fn write_counters(m: Module, a: u16, d: &[u8]) -> Result<Served, Refusal>
 }
 
 // Registers 200 to 215
+#[tactic(auto, using(crate::proofs::Writes::deductions_outside, crate::proofs::Writes::deductions_unfit, crate::proofs::Writes::deductions_done))]
 pub fn write_deductions(m: Module, a: u16, d: &[u8]) -> Result<Served, Refusal>
     ensures { outcome m result ≡ served_of (judged m (on_part (with_counters m) (write_deductions a (words d.now) m.inputs.counters))) }
 {
@@ -39,6 +41,7 @@ pub fn write_deductions(m: Module, a: u16, d: &[u8]) -> Result<Served, Refusal>
 }
 
 // Registers 300 to 315
+#[tactic(auto, using(crate::proofs::Writes::modes_outside, crate::proofs::Writes::modes_unfit, crate::proofs::Writes::modes_done))]
 pub fn write_modes(m: Module, a: u16, d: &[u8]) -> Result<Served, Refusal>
     ensures { outcome m result ≡ served_of (judged m (on_part (with_modes m) (write_modes a (words d.now) m.settings.modes))) }
 {

@@ -10,7 +10,7 @@ ghost use Rattle.encoding.specs.Answers.{told};
 ghost use Rattle.outcomes.specs.Parts.{outcome, told_about, handling, handled_of};
 
 use lists::Data;
-use model::{Module, Notice, Output, Port, Preset, Refusal, Thermostat};
+use model::{Inputs, Module, Notice, Output, Port, Preset, Refusal, Settings, Thermostat};
 
 // What an accepted instruction or function comes to: the state after, and the reply's data. A refused one leaves the state.
 #[derive(Drop)]
@@ -47,109 +47,105 @@ pub fn told(m: Module, read: Result<Data, Refusal>) -> Result<Served, Refusal>
     Ok(Served { after: m, body })
 }
 
-// The state after a request: where it is refused, as it was before.
-pub fn after_of(m: Module, served: &Result<Served, Refusal>) -> Module
-    ensures { result ≡ (outcome m served.now).after }
-{
-    match served {
-        Ok(s) => s.after,
-        Err(_) => m,
-    }
-}
-
 // The module with one part put in place: a function for each, since no parameter can name a field ------------
 
 // The module with these counters.
 pub fn with_counters(m: Module, counters: [u32; 16]) -> Module
     ensures { result ≡ with_counters m counters }
 {
-    let mut part = m.inputs;
-    part.counters = counters;
-    let mut next = m;
-    next.inputs = part;
-    next
+    Module {
+        inputs: Inputs {
+            counters,
+            ..m.inputs
+        },
+        ..m
+    }
 }
 
 // The module with these outputs.
 pub fn with_outputs(m: Module, outputs: [Output; 16]) -> Module
     ensures { result ≡ with_outputs m outputs }
 {
-    let mut next = m;
-    next.outputs = outputs;
-    next
+    Module { outputs, ..m }
 }
 
 // The module with these modes.
 pub fn with_modes(m: Module, modes: [u8; 16]) -> Module
     ensures { result ≡ with_modes m modes }
 {
-    let mut part = m.settings;
-    part.modes = modes;
-    let mut next = m;
-    next.settings = part;
-    next
+    Module {
+        settings: Settings {
+            modes,
+            ..m.settings
+        },
+        ..m
+    }
 }
 
 // The module with this sampling number.
 pub fn with_sampling(m: Module, sampling: u8) -> Module
     ensures { result ≡ with_sampling m sampling }
 {
-    let mut part = m.settings;
-    part.sampling = sampling;
-    let mut next = m;
-    next.settings = part;
-    next
+    Module {
+        settings: Settings {
+            sampling,
+            ..m.settings
+        },
+        ..m
+    }
 }
 
 // The module with these presets.
 pub fn with_presets(m: Module, presets: [Preset; 16]) -> Module
     ensures { result ≡ with_presets m presets }
 {
-    let mut part = m.settings;
-    part.presets = presets;
-    let mut next = m;
-    next.settings = part;
-    next
+    Module {
+        settings: Settings {
+            presets,
+            ..m.settings
+        },
+        ..m
+    }
 }
 
 // The module with these thermostats.
 pub fn with_thermostats(m: Module, thermostats: [Thermostat; 16]) -> Module
     ensures { result ≡ with_thermostats m thermostats }
 {
-    let mut part = m.settings;
-    part.thermostats = thermostats;
-    let mut next = m;
-    next.settings = part;
-    next
+    Module {
+        settings: Settings {
+            thermostats,
+            ..m.settings
+        },
+        ..m
+    }
 }
 
 // The module with this notice.
 pub fn with_notice(m: Module, notice: Notice) -> Module
     ensures { result ≡ with_notice m notice }
 {
-    let mut part = m.settings;
-    part.notice = notice;
-    let mut next = m;
-    next.settings = part;
-    next
+    Module {
+        settings: Settings {
+            notice,
+            ..m.settings
+        },
+        ..m
+    }
 }
 
 // The module with this Spinel port.
 pub fn with_spinel(m: Module, spinel: Port) -> Module
     ensures { result ≡ with_spinel m spinel }
 {
-    let mut next = m;
-    next.spinel = spinel;
-    next
+    Module { spinel, ..m }
 }
 
 // The module with this Modbus port.
 pub fn with_modbus(m: Module, modbus: Port) -> Module
     ensures { result ≡ with_modbus m modbus }
 {
-    let mut next = m;
-    next.modbus = modbus;
-    next
+    Module { modbus, ..m }
 }
 
 // A frame that fails 2 to 6: nothing changes, and there is no reply.

@@ -12,26 +12,29 @@ ghost use Rattle.outcomes.specs.Parts.{outcome, served_of};
 
 use model::{HalfSeconds, Module, Refusal};
 use outcomes::Served;
+use output_effects::Holders;
 
-// 20H
+// 20H. A function for this and the next would take judge and effect as closures: 01 has a small one for each.
+#[tactic(auto, using(crate::proofs::Switches::no_sets, crate::proofs::Switches::sets_refused, crate::proofs::Switches::sets_done))]
 pub fn set_outputs(m: Module, d: &[u8]) -> Result<Served, Refusal>
     ensures { outcome m result ≡ served_of (judged m (on_part (with_outputs m) (set_outputs m.reading m.settings.thermostats d.now m.outputs))) }
 {
     encoding::refused_if(!number_lists::items_of(1, d.len()), Refusal::DataLength)?;
     let sets = decoders::set_bytes(d);
     let es = sets.as_slice();
-    output_effects::switch_refusal(m.reading, m.settings.thermostats, es)?;
+    output_effects::switch_refusal(&Holders::of(&m), es)?;
     Ok(Served::without_data(outcomes::with_outputs(m, output_effects::set(m.outputs, es))))
 }
 
 // Pulses of one time, a set byte for each.
+#[tactic(auto, using(crate::proofs::Switches::no_pulses, crate::proofs::Switches::pulses_refused, crate::proofs::Switches::pulses_done))]
 fn pulse_listed(m: Module, time: HalfSeconds, d: &[u8]) -> Result<Served, Refusal>
     ensures { outcome m result ≡ served_of (judged m (on_part (with_outputs m) (refuse 8 (not (items_of 1 d.now)) (pulse_outputs time m.reading m.settings.thermostats (map set_byte d.now) m.outputs)))) }
 {
     encoding::refused_if(!number_lists::items_of(1, d.len()), Refusal::DataLength)?;
     let sets = decoders::set_bytes(d);
     let es = sets.as_slice();
-    output_effects::pulse_refusal(time, m.reading, m.settings.thermostats, es)?;
+    output_effects::pulse_refusal(time, &Holders::of(&m), es)?;
     Ok(Served::without_data(outcomes::with_outputs(m, output_effects::pulse(time, m.outputs, es))))
 }
 
@@ -46,15 +49,17 @@ pub fn set_pulses(m: Module, d: &[u8]) -> Result<Served, Refusal>
 }
 
 // 25H
+#[tactic(auto, using(crate::proofs::Switches::start_refused, crate::proofs::Switches::started))]
 pub fn start_presets(m: Module, d: &[u8]) -> Result<Served, Refusal>
     ensures { outcome m result ≡ served_of (judged m (on_part (with_outputs m) (start_presets m.settings.presets m.reading m.settings.thermostats d.now m.outputs))) }
 {
     let ps = m.settings.presets;
-    preset_effects::start_refusal(ps, m.reading, m.settings.thermostats, d)?;
+    preset_effects::start_refusal(ps, &Holders::of(&m), d)?;
     Ok(Served::without_data(outcomes::with_outputs(m, preset_effects::start(ps, m.outputs, d))))
 }
 
 // 26H
+#[tactic(auto, using(crate::proofs::Switches::presets_refused, crate::proofs::Switches::presets_done))]
 pub fn set_presets(m: Module, d: &[u8]) -> Result<Served, Refusal>
     ensures { outcome m result ≡ served_of (judged m (on_part (with_presets m) (set_presets d.now m.settings.presets))) }
 {
@@ -64,6 +69,7 @@ pub fn set_presets(m: Module, d: &[u8]) -> Result<Served, Refusal>
 }
 
 // 30H
+#[tactic(auto, using(outcomes::proofs::Laws::told_law, spinel_reads::proofs::States::states_told_lem))]
 pub fn read_outputs(m: Module, d: &[u8]) -> Result<Served, Refusal>
     ensures { outcome m result ≡ served_of (judged m (reading m (read_states d.now (output_states m.outputs)))) }
 {
@@ -74,6 +80,7 @@ pub fn read_outputs(m: Module, d: &[u8]) -> Result<Served, Refusal>
 }
 
 // 31H
+#[tactic(auto, using(outcomes::proofs::Laws::told_law, spinel_reads::proofs::States::states_told_lem), unfolding(inputs::specs::Passes::stable_bits))]
 pub fn read_inputs(m: Module, d: &[u8]) -> Result<Served, Refusal>
     ensures { outcome m result ≡ served_of (judged m (reading m (read_states d.now (input_states m.inputs)))) }
 {
@@ -84,6 +91,7 @@ pub fn read_inputs(m: Module, d: &[u8]) -> Result<Served, Refusal>
 }
 
 // 33H
+#[tactic(auto, using(outcomes::proofs::Laws::told_law))]
 pub fn read_pulses(m: Module, d: &[u8]) -> Result<Served, Refusal>
     ensures { outcome m result ≡ served_of (judged m (reading m (list_read (pulse_shown m.outputs) d.now))) }
 {
@@ -91,6 +99,7 @@ pub fn read_pulses(m: Module, d: &[u8]) -> Result<Served, Refusal>
 }
 
 // 36H
+#[tactic(auto, using(outcomes::proofs::Laws::told_law))]
 pub fn read_presets(m: Module, d: &[u8]) -> Result<Served, Refusal>
     ensures { outcome m result ≡ served_of (judged m (reading m (list_read (preset_shown m.settings.presets) d.now))) }
 {
@@ -98,6 +107,7 @@ pub fn read_presets(m: Module, d: &[u8]) -> Result<Served, Refusal>
 }
 
 // 38H
+#[tactic(auto, using(outcomes::proofs::Laws::told_law))]
 pub fn read_output_modes(m: Module, d: &[u8]) -> Result<Served, Refusal>
     ensures { outcome m result ≡ served_of (judged m (reading m (list_read (mode_byte m.settings.thermostats m.settings.presets) d.now))) }
 {

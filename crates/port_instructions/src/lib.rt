@@ -1,23 +1,15 @@
 // What Spinel's instructions come to for the port itself, the notice and the reset: decoded, judged, applied.
 #![tactic(auto)]
 
-ghost use Rattle.std.specs.Prelude.{◌≡◌, cond};
-ghost use Rattle.model.specs.Numbers.{refused_by};
+ghost use Rattle.std.specs.Prelude.{◌≡◌};
 ghost use Rattle.model.specs.State.{with_spinel, with_notice};
 ghost use Rattle.model.specs.Refusals.{on_part, reading, judged};
-ghost use Rattle.model.specs.Counters.{some_data, give_permission, set_port, read_port, reset_module};
+ghost use Rattle.model.specs.Counters.{give_permission, set_port, read_port, reset_module};
 ghost use Rattle.model.specs.Notice.{set_notice, read_notice};
 ghost use Rattle.outcomes.specs.Parts.{outcome, served_of};
 
 use model::{Module, Port, Refusal};
 use outcomes::Served;
-
-// Refused where an instruction that takes no data has some.
-fn no_data(d: &[u8]) -> Result<(), Refusal>
-    ensures { refused_by result ≡ cond (some_data d.now) 8 0 }
-{
-    encoding::refused_if(!d.is_empty(), Refusal::DataLength)
-}
 
 // 10H
 pub fn set_notice(m: Module, signature: u8, d: &[u8]) -> Result<Served, Refusal>
@@ -29,6 +21,7 @@ pub fn set_notice(m: Module, signature: u8, d: &[u8]) -> Result<Served, Refusal>
 }
 
 // 11H
+#[tactic(auto, using(outcomes::proofs::Laws::told_law))]
 pub fn read_notice(m: Module, d: &[u8]) -> Result<Served, Refusal>
     ensures { outcome m result ≡ served_of (judged m (reading m (read_notice d.now m.settings.notice))) }
 {
@@ -36,6 +29,7 @@ pub fn read_notice(m: Module, d: &[u8]) -> Result<Served, Refusal>
 }
 
 // E0H: a new address and speed, then the reset.
+#[tactic(auto, using(crate::proofs::Ports::port_length, crate::proofs::Ports::port_closed, crate::proofs::Ports::port_unfit, crate::proofs::Ports::port_set))]
 pub fn set_port(m: Module, permitted: bool, universal: bool, d: &[u8]) -> Result<Served, Refusal>
     ensures { outcome m result ≡ served_of (judged m (set_port permitted universal d.now m)) }
 {
@@ -54,24 +48,27 @@ pub fn set_port(m: Module, permitted: bool, universal: bool, d: &[u8]) -> Result
 }
 
 // E3H
+#[tactic(auto, using(outcomes::proofs::Laws::refused_at, outcomes::proofs::Laws::done_at), unfolding(model::specs::Counters::reset_module, model::specs::Refusals::refusal_of))]
 pub fn reset_module(m: Module, d: &[u8]) -> Result<Served, Refusal>
     ensures { outcome m result ≡ served_of (judged m (reset_module d.now m)) }
 {
-    no_data(d)?;
+    encoding::no_data(d)?;
     Ok(Served::without_data(startup::reset_state(m)))
 }
 
 // E4H
+#[tactic(auto, using(crate::proofs::Ports::permission_with_data, crate::proofs::Ports::permission_to_all, crate::proofs::Ports::permission_given))]
 pub fn give_permission(m: Module, universal: bool, d: &[u8]) -> Result<Served, Refusal>
     ensures { outcome m result ≡ served_of (judged m (on_part (with_spinel m) (give_permission universal d.now m.spinel))) }
 {
-    no_data(d)?;
+    encoding::no_data(d)?;
     encoding::refused_if(universal, Refusal::Permission)?;
     let port = port_effects::permitted(m.spinel, true);
     Ok(Served::without_data(outcomes::with_spinel(m, port)))
 }
 
 // F0H
+#[tactic(auto, using(outcomes::proofs::Laws::told_law))]
 pub fn read_port(m: Module, d: &[u8]) -> Result<Served, Refusal>
     ensures { outcome m result ≡ served_of (judged m (reading m (read_port d.now m.spinel))) }
 {

@@ -12,6 +12,7 @@ use model::{Module, Refusal};
 use outcomes::Served;
 
 // Register 0
+#[tactic(auto, using(crate::proofs::Writes::no_permission, crate::proofs::Writes::permission_unfit, crate::proofs::Writes::permission_given))]
 pub fn write_permission(m: Module, single: bool, a: u16, d: &[u8]) -> Result<Served, Refusal>
     ensures { outcome m result ≡ served_of (judged m (on_part (with_modbus m) (write_permission single a (words d.now) m.modbus))) }
 {
@@ -23,6 +24,7 @@ pub fn write_permission(m: Module, single: bool, a: u16, d: &[u8]) -> Result<Ser
 }
 
 // Registers 1 to 2: address and speed, then the reset.
+#[tactic(auto, using(crate::proofs::Writes::no_port, crate::proofs::Writes::port_closed, crate::proofs::Writes::port_unfit, crate::proofs::Writes::port_set))]
 pub fn write_port(m: Module, permitted: bool, a: u16, d: &[u8]) -> Result<Served, Refusal>
     ensures { outcome m result ≡ served_of (judged m (write_port permitted a (words d.now) m)) }
 {

@@ -11,6 +11,7 @@ use model::{Module, Refusal};
 use outcomes::Served;
 
 // 1AH. A function for this and for 6AH would take their effects as closures: 01 has a small one for each.
+#[tactic(auto, using(crate::proofs::Groups::no_groups, crate::proofs::Groups::groups_unfit, crate::proofs::Groups::groups_set))]
 pub fn set_thermostats(m: Module, d: &[u8]) -> Result<Served, Refusal>
     ensures { outcome m result ≡ served_of (judged m (on_part (with_thermostats m) (set_thermostats d.now m.settings.thermostats))) }
 {
@@ -23,6 +24,7 @@ pub fn set_thermostats(m: Module, d: &[u8]) -> Result<Served, Refusal>
 }
 
 // 1BH
+#[tactic(auto, using(outcomes::proofs::Laws::told_law))]
 pub fn read_thermostats(m: Module, d: &[u8]) -> Result<Served, Refusal>
     ensures { outcome m result ≡ served_of (judged m (reading m (read_thermostats d.now m.settings.thermostats))) }
 {
@@ -30,6 +32,7 @@ pub fn read_thermostats(m: Module, d: &[u8]) -> Result<Served, Refusal>
 }
 
 // 51H
+#[tactic(auto, using(outcomes::proofs::Laws::told_law))]
 pub fn read_temperature(m: Module, d: &[u8]) -> Result<Served, Refusal>
     ensures { outcome m result ≡ served_of (judged m (reading m (read_temperature d.now m.reading))) }
 {

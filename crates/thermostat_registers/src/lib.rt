@@ -12,6 +12,7 @@ use model::{Module, Refusal};
 use outcomes::Served;
 
 // Registers 600 to 663: flags that are no byte are refused as a setpoint that does not fit is.
+#[tactic(auto, using(crate::proofs::Writes::no_place, crate::proofs::Writes::flags_wide, crate::proofs::Writes::settings_unfit, crate::proofs::Writes::written))]
 pub fn write_thermostat(m: Module, a: u16, d: &[u8]) -> Result<Served, Refusal>
     ensures { outcome m result ≡ served_of (judged m (on_part (with_thermostats m) (write_thermostat a (words d.now) m.settings.thermostats))) }
 {

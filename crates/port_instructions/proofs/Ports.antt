@@ -1,0 +1,62 @@
+-- E0H and E4H, refused and done. Assumes nothing.
+use Rattle.std.proofs.Common.{◌≡◌, refl, ◌∙◌, [], List, ℕ, Bool, true, false, length, get_or}
+use mathlib.Core.Bool.{cond, not, ◌||◌}
+use lib.Dec.{eqb, ltb}
+use Rattle.lists.specs.Data.{data_of}
+use Rattle.lists.specs.Tests.{within}
+use Rattle.lists.proofs.Choices.{not-and, within_zero}
+use Rattle.model.specs.declared.Module.{Module}
+use Rattle.model.specs.State.{with_spinel, permit}
+use Rattle.model.specs.Refusals.{Request, on_part, refusal_of}
+use Rattle.model.specs.Counters.{some_data, give_permission, set_port, reset}
+use Rattle.model.proofs.Refusing.{stops, goes}
+use Rattle.outcomes.proofs.Laws.{Refused, Done, Passes, refused_first, refused_later, done_later}
+
+module _ (m : Module) (universal : Bool) (d : List ℕ) where
+  -- E4H
+  abbrev permission : Request Module
+  permission = on_part (with_spinel m) (give_permission universal d m.spinel)
+
+  permission_first : refusal_of permission ≡ cond (some_data d) 8 (cond universal 10 0)
+  unfolding give_permission refusal_of
+  permission_first = refl
+
+  pub permission_with_data : Refused m permission (cond (some_data d) 8 0)
+  permission_with_data = refused_first m permission (some_data d) 7 _ permission_first
+
+  pub permission_to_all : Passes (some_data d) 8 → Refused m permission (cond universal 10 0)
+  permission_to_all g r e = refused_later m permission (some_data d) 7 _ permission_first r g e
+
+  pub permission_given : Passes (some_data d) 8 → Passes universal 10 → Done m permission (with_spinel m (permit true m.spinel))
+  unfolding give_permission
+  permission_given g f = done_later m permission (some_data d) 7 _ permission_first _ (data_of []) g f refl refl
+
+module _ (m : Module) (permitted universal : Bool) (d : List ℕ) where
+  -- E0H
+  abbrev wrong : Bool
+  wrong = not (eqb (length d) 2)
+
+  abbrev closed : Bool
+  closed = universal || not permitted
+
+  -- the number for an address or a speed that is too great
+  abbrev misfit : ℕ
+  misfit = cond (ltb 0xFD (get_or d 0 0) || ltb 0x0B (get_or d 1 0)) 11 0
+
+  first : refusal_of (set_port permitted universal d m) ≡ cond wrong 8 (cond closed 10 misfit)
+  unfolding set_port refusal_of
+  first = rw (not-and (within 0 0xFD (get_or d 0 0)) (within 0 0x0B (get_or d 1 0)), within_zero 0xFD (get_or d 0 0), within_zero 0x0B (get_or d 1 0))
+
+  pub port_length : Refused m (set_port permitted universal d m) (cond wrong 8 0)
+  port_length = refused_first m (set_port permitted universal d m) wrong 7 _ first
+
+  pub port_closed : Passes wrong 8 → Refused m (set_port permitted universal d m) (cond closed 10 0)
+  port_closed g r e = refused_later m (set_port permitted universal d m) wrong 7 _ first r g (stops closed 10 misfit r e)
+
+  pub port_unfit : Passes wrong 8 → Passes closed 10 → Refused m (set_port permitted universal d m) misfit
+  port_unfit g f r e = refused_later m (set_port permitted universal d m) wrong 7 _ first r g (e ∙ goes closed 9 misfit f)
+
+  pub port_set : Passes wrong 8 → Passes closed 10 → 0 ≡ misfit
+      → Done m (set_port permitted universal d m) (reset (with_spinel m (record { address = get_or d 0 0; speed = get_or d 1 0; permitted = false })))
+  unfolding set_port
+  port_set g f e = done_later m (set_port permitted universal d m) wrong 7 _ first _ (data_of []) g (e ∙ goes closed 9 misfit f) refl refl
