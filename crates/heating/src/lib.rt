@@ -7,18 +7,13 @@ ghost use Rattle.thermostat.specs.Acting.{acting};
 ghost use Rattle.heating.specs.Parts.{taken_parts};
 
 use model::{Output, Reading, Thermostat};
+use std::array::from_fn;
 
 // The sixteen outputs at a sample with this reading.
 fn act_all(last: Reading, r: Reading, hs: [Thermostat; 16], os: [Output; 16]) -> [Output; 16]
     ensures { result ≡ by_thermostat (acting last r) hs os }
 {
-    let mut next = os;
-    for i in 0..16usize {
-        let h = hs[i];
-        let o = next[i];
-        next[i] = thermostat::act(last, r, h, o);
-    }
-    next
+    from_fn(|i| thermostat::act(last, r, hs[i], os[i]))
 }
 
 // What a temperature sample changes.

@@ -1,10 +1,12 @@
 -- Edges of the sixteen lines as a loop finds them. Assumes nothing.
 use Prim.Native.Nat.{ℕ}
 use native.Mathlib.Omega.{arith}
-use mathlib.Core.Path.{◌≡◌, sym, ap, ◌∙◌}
-use mathlib.Core.Bool.{Bool, false, ◌&&◌}
-use mathlib.Core.List.{List}
+use mathlib.Core.Path.{◌≡◌, refl, sym, ap, ◌∙◌}
+use mathlib.Core.Bool.{Bool, true, false, ◌&&◌, beq}
+use Rattle.std.specs.Prelude.{Some, None}
+use mathlib.Core.List.{List, [], ◌∷◌}
 use lib.ListN.{length, get_or}
+use Rattle.std.specs.List.{list_any}
 use Rattle.lists.specs.Tests.{any}
 use Rattle.lists.specs.Mapi.{mapi}
 use Rattle.lists.specs.Numbers.{bit_at}
@@ -15,6 +17,13 @@ use Rattle.model.specs.declared.Line.{Line}
 use Rattle.model.specs.State.{fresh_line}
 use Rattle.model.specs.Samples.{is_edge, edges, selected_edge, counted, lines_sampled, counters_sampled}
 use Rattle.inputs.specs.Passes.{any_masked, selected_lines, sampled_of}
+
+-- a list has a `true` where one of its tests passed
+pub has_true : (l : List Bool) → list_any (λ y. beq y true) l ≡ any (λ b. b) l
+unfolding any
+has_true [] = refl
+has_true (true ∷ l) = refl
+has_true (false ∷ l) = has_true l
 
 -- without an edge no counter moves
 pub no_edge : (was now : List Line) (modes cs : List ℕ) → length was ≡ length cs → any (λ b. b) (edges was now) ≡ false → counters_sampled modes was now cs ≡ cs
@@ -38,16 +47,21 @@ no_mask mask edged h =
     ∙ none_below _ (length edged) (λ i l. rw (some_false (λ k. get_or edged k false) (length edged) i (sym (some_of edged) ∙ h) l))
 
 -- the inputs' part of a sample, by whether a line had an edge
-module _ (bits number : ℕ) (modes : List ℕ) (x : Inputs) (now : List Line) (e : now ≡ lines_sampled number bits x.lines) (es : List Bool) (q : es ≡ edges x.lines now) (t : Bool) (p : t ≡ any (λ b. b) es) where
-  pub with_edge : (cs : List ℕ) → cs ≡ counters_sampled modes x.lines now x.counters
-      → record { inputs = record { lines = now; counters = cs }; edges = es; edged = t } ≡ sampled_of bits number modes x
+module _ (bits number : ℕ) (modes : List ℕ) (x : Inputs) (now : List Line) (e : now ≡ lines_sampled number bits x.lines) (es : List Bool) (q : es ≡ edges x.lines now) where
+  pub with_edge : (cs : List ℕ) → cs ≡ counters_sampled modes x.lines now x.counters → true ≡ any (λ b. b) es
+      → record { inputs = record { lines = now; counters = cs }; edges = Some es } ≡ sampled_of bits number modes x
   unfolding sampled_of
-  with_edge cs c = rw (c, p, q, e)
+  with_edge cs c p = rw (c, q, e, ← (rw (q, e) at p))
 
-  pub without_edge : t ≡ false → length now ≡ length x.counters
-      → record { inputs = record { lines = now; counters = x.counters }; edges = es; edged = t } ≡ sampled_of bits number modes x
+  no_edges : (cs : List ℕ) → cs ≡ counters_sampled modes x.lines now x.counters → false ≡ any (λ b. b) es
+      → record { inputs = record { lines = now; counters = cs }; edges = None } ≡ sampled_of bits number modes x
+  unfolding sampled_of
+  no_edges cs c p = rw (c, e, ← (rw (q, e) at p))
+
+  pub without_edge : false ≡ any (λ b. b) es → length now ≡ length x.counters
+      → record { inputs = record { lines = now; counters = x.counters }; edges = None } ≡ sampled_of bits number modes x
   unfolding lines_sampled
-  without_edge f l =
+  without_edge p l =
       let long : length x.lines ≡ length x.counters = sym (length-mapi _ x.lines) ∙ ap length (sym e) ∙ l in
-      let none : any (λ b. b) (edges x.lines now) ≡ false = ap (any (λ b. b)) (sym q) ∙ sym p ∙ f in
-      with_edge x.counters (sym (no_edge x.lines now modes x.counters long none))
+      let none : any (λ b. b) (edges x.lines now) ≡ false = ap (any (λ b. b)) (sym q) ∙ sym p in
+      no_edges x.counters (sym (no_edge x.lines now modes x.counters long none)) p

@@ -8,13 +8,13 @@ ghost use Rattle.model.specs.Samples.{lines_sampled, edges, counters_sampled};
 ghost use Rattle.inputs.specs.Passes.{any_masked, selected_lines, sampled_of, stable_bits};
 
 use model::{Inputs, Line};
+use std::array::from_fn;
 
-// The inputs after a sample, which of them had an edge, and whether any had.
+// The inputs after a sample, and which of them had an edge, where any had.
 #[derive(Clone, Copy)]
 pub struct Sampled {
     pub inputs: Inputs,
-    pub edges: [bool; 16],
-    pub edged: bool,
+    pub edges: Option<[bool; 16]>,
 }
 
 // Bit i of a sample or of a mask.
@@ -25,20 +25,18 @@ fn bit_at(bits: u16, i: usize) -> bool
     (bits >> i) % 2 == 1
 }
 
-// The pass over the sixteen lines.
+// The pass over the sixteen lines. A loop: by `from_fn` the sample call took 41.0 ns for 40.4.
 pub fn sample_lines(a: [Line; 16], sampling: u8, bits: u16) -> [Line; 16]
     ensures { result ≡ lines_sampled sampling bits a }
 {
     let mut next = a;
-    for i in 0..16usize {
-        let x = next[i];
-        let bit = bit_at(bits, i);
-        next[i] = lines::sample_line(x, sampling, bit);
+    for i in 0..16 {
+        next[i] = lines::sample_line(next[i], sampling, bit_at(bits, i));
     }
     next
 }
 
-// Which lines have an edge that their mode selects.
+// Which lines have an edge that their mode selects. By copies: without, or by `from_fn`, the sample call took 48.6 ns for 40.4.
 fn selected_lines(modes: [u8; 16], was: [Line; 16], now: [Line; 16]) -> [bool; 16]
     ensures { result ≡ selected_lines modes was now }
 {
@@ -62,48 +60,30 @@ pub fn count_lines(
     ensures { result ≡ counters_sampled modes was now counters }
 {
     let found = selected_lines(modes, was, now);
-    let mut next = counters;
-    for i in 0..16usize {
-        let counter = next[i];
-        let selected = found[i];
-        next[i] = lines::count(selected, counter);
-    }
-    next
+    from_fn(|i| lines::count(found[i], counters[i]))
 }
 
 // Which lines have an edge.
 pub fn edges_of(was: [Line; 16], now: [Line; 16]) -> [bool; 16]
     ensures { result ≡ edges was now }
 {
-    let mut found = [false; 16];
-    for i in 0..16usize {
-        let before = was[i];
-        let after = now[i];
-        found[i] = lines::is_edge(before, after);
-    }
-    found
+    from_fn(|i| lines::is_edge(was[i], now[i]))
 }
 
 // Whether there is any.
 pub fn any_edge(edged: [bool; 16]) -> bool
     ensures { result ≡ any (λ b. b) edged }
 {
-    let mut found = false;
-    for edge in edged {
-        found = found | edge;
-    }
-    found
+    edged.contains(&true)
 }
 
-// Whether there is any on a line with its mask bit.
+// Whether there is any on a line with its mask bit. A loop: by `any` the sample call took 44.6 ns for 40.3.
 pub fn any_masked(mask: u16, edged: [bool; 16]) -> bool
     ensures { result ≡ any_masked mask edged }
 {
     let mut found = false;
-    for i in 0..16usize {
-        let edge = edged[i];
-        let bit = bit_at(mask, i);
-        found = found | (edge & bit);
+    for i in 0..16 {
+        found = found | (edged[i] & bit_at(mask, i));
     }
     found
 }
@@ -119,20 +99,17 @@ pub fn stable_bits(a: [Line; 16]) -> u16
 pub fn sample(sampling: u8, modes: [u8; 16], x: Inputs, bits: u16) -> Sampled
     ensures { result ≡ sampled_of bits sampling modes x }
 {
-    let was = x.lines;
-    let now = sample_lines(was, sampling, bits);
-    let edges = edges_of(was, now);
-    let edged = any_edge(edges);
-    let mut next = x;
-    next.lines = now;
-    if edged {
-        let counters = x.counters;
-        let counted = count_lines(counters, modes, was, now);
-        next.counters = counted;
+    let lines = sample_lines(x.lines, sampling, bits);
+    let edges = edges_of(x.lines, lines);
+    if !any_edge(edges) {
+        return Sampled {
+            inputs: Inputs { lines, ..x },
+            edges: None,
+        };
     }
+    let counters = count_lines(x.counters, modes, x.lines, lines);
     Sampled {
-        inputs: next,
-        edges,
-        edged,
+        inputs: Inputs { lines, counters },
+        edges: Some(edges),
     }
 }

@@ -10,24 +10,22 @@ use model::Line;
 pub fn sample_line(x: Line, sampling: u8, bit: bool) -> Line
     ensures { result ≡ line_sampled sampling bit x }
 {
-    let stable = x.stable;
-    if bit == stable {
-        return Line { stable, run: 0 };
+    if bit == x.stable {
+        return Line { run: 0, ..x };
     }
-    let run = x.run;
-    let more = (run as u16) + 1;
-    if (sampling as u16) <= more {
+    if u16::from(sampling) <= u16::from(x.run) + 1 {
         return Line {
             stable: bit,
             run: 0,
         };
     }
     Line {
-        stable,
-        run: run + 1,
+        run: x.run + 1,
+        ..x
     }
 }
 
+// Whether the sample moved the stable state. The line before and after stay two parameters, as the definitions take them.
 pub fn is_edge(was: Line, now: Line) -> bool
     ensures { result ≡ is_edge was now }
 {
@@ -39,15 +37,17 @@ pub fn is_selected(mode: u8, was: Line, now: Line) -> bool
     ensures { result ≡ selected_edge mode was now }
 {
     let rising = now.stable;
-    (was.stable != now.stable) & ((mode == 3) | ((mode == 1) & rising) | ((mode == 2) & !rising))
+    is_edge(was, now) & ((mode == 3) | ((mode == 1) & rising) | ((mode == 2) & !rising))
 }
 
-// One more for a selected edge, by `wrapping_add_u32`: the largest value is followed by 0.
+// One more for a selected edge: the largest value is followed by 0.
+#[tactic(auto, unfolding(model::specs::Samples::counted))]
 pub fn count(selected: bool, counter: u32) -> u32
     ensures { result ≡ counted selected counter }
 {
     if selected {
-        return std::num::wrapping_add_u32(counter, 1);
+        counter.wrapping_add(1)
+    } else {
+        counter
     }
-    counter
 }

@@ -58,6 +58,7 @@ fn noisy_next(s: Source) -> Source
     }
 }
 
+// Either kind. A bool, since `load_play` takes one by the C interface.
 fn source_next(noisy: bool, s: Source) -> Source
     ensures { result ≡ source_next noisy s }
 {
@@ -144,7 +145,7 @@ fn sum(p: Played) -> u64
     let counters = p.after.inputs.counters;
     let outputs = p.after.outputs;
     let mut total = p.written;
-    // By place: a sum over `zip` would be no plainer, since `sum_of` reads both lists at one place.
+    // By place: of `zip` no invariant over what is left of both lists closed.
     for i in 0..16 {
         total = total.wrapping_add(left_by(counters[i], outputs[i]));
     }

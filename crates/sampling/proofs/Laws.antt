@@ -2,7 +2,8 @@
 use Prim.Native.Nat.{ℕ, ◌≤◌}
 use native.Mathlib.Omega.{arith}
 use mathlib.Core.Path.{◌≡◌, refl, sym, ap, ◌∙◌}
-use mathlib.Core.Bool.{Bool, true, false, cond, ◌&&◌, and-false}
+use mathlib.Core.Bool.{Bool, true, false, cond, and-false}
+use Rattle.std.specs.Prelude.{Some, None}
 use mathlib.Core.List.{List, [], map}
 use lib.ListN.{length, take}
 use lib.Seq.{take_all}
@@ -23,17 +24,17 @@ use Rattle.model.specs.Frames.{spinel_reply}
 use Rattle.model.specs.Notice.{is_on, noticed, notice_frame, notice_written}
 use Rattle.model.specs.Calls.{sampled}
 use Rattle.inputs.specs.declared.Sampled.{Sampled}
-use Rattle.inputs.specs.Passes.{any_masked, sampled_of, stable_bits}
+use Rattle.inputs.specs.Passes.{any_masked, noticed_in, sampled_of, stable_bits}
 use Rattle.inputs.proofs.Edges.{no_mask}
 use Rattle.replies.specs.Replies.{spinel_replied}
 use Rattle.outcomes.specs.Parts.{handled_of}
 
 -- a notice is due only where some edge was seen, so that test may go first
-due_noticed : (n : Notice) (es : List Bool) → (any (λ b. b) es && noticed n es) ≡ noticed n es
+due_noticed : (n : Notice) (es : List Bool) → noticed_in n (cond (any (λ b. b) es) (Some es) None) ≡ noticed n es
 unfolding noticed any_masked
 due_noticed n es = go (any (λ b. b) es) refl
   where
-    go : (b : Bool) → any (λ b. b) es ≡ b → (b && noticed n es) ≡ noticed n es
+    go : (b : Bool) → any (λ b. b) es ≡ b → noticed_in n (cond b (Some es) None) ≡ noticed n es
     go true e = refl
     go false e = rw (no_mask n.mask es e) (sym (and-false (is_on n)))
 
@@ -48,7 +49,7 @@ framed address b n x none d r p e q f =
 
 -- the state and the notice after a sample
 pub handled_law : (bits : ℕ) (m : Module) (s : Sampled) (os : List Output) (r : Data) → s ≡ sampled_of bits m.settings.sampling m.settings.modes m.inputs → os ≡ map pulsed m.outputs
-    → r ≡ data_of (cond (s.edged && noticed m.settings.notice s.edges) (notice_frame m.spinel.address m.settings.notice s.inputs) [])
+    → r ≡ data_of (cond (noticed_in m.settings.notice s.edges) (notice_frame m.spinel.address m.settings.notice s.inputs) [])
     → record { refusal = 0; after = with_outputs (with_inputs m s.inputs) os; reply = r } ≡ handled_of (sampled bits m)
 unfolding sampled sampled_of inputs_sampled notice_written
 handled_law bits m s os r e q f = rw (f, q, e, due_noticed m.settings.notice (edges m.inputs.lines (inputs_sampled bits m.settings m.inputs).lines))

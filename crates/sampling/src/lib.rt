@@ -1,11 +1,12 @@
 // What a sample comes to: of the inputs, with the pulses and the notice; of the thermometer.
 #![tactic(auto)]
 
-ghost use Rattle.std.specs.Prelude.{◌≡◌, cond, ◌&&◌, []};
+ghost use Rattle.std.specs.Prelude.{◌≡◌, cond, []};
 ghost use Rattle.lists.specs.Data.{data_of};
-ghost use Rattle.model.specs.Notice.{noticed, notice_frame};
+ghost use Rattle.model.specs.Notice.{notice_frame};
 ghost use Rattle.model.specs.Temperature.{reading_of, taken};
 ghost use Rattle.model.specs.Calls.{sampled};
+ghost use Rattle.inputs.specs.Passes.{noticed_in};
 ghost use Rattle.outcomes.specs.Parts.{handling, handled_of};
 
 use inputs::Sampled;
@@ -17,32 +18,27 @@ use outcomes::Handled;
 fn notice_frame(address: u8, n: Notice, x: Inputs) -> Data
     ensures { result ≡ data_of (notice_frame address n x) }
 {
-    let lines = x.lines;
-    let states = encoding::push16(encoding::empty(), inputs::stable_bits(lines));
+    let states = encoding::push16(encoding::empty(), inputs::stable_bits(x.lines));
     replies::spinel_reply(address, n.signature, 0x0D, states)
 }
 
 // Whether a notice is due after these edges.
-fn notice_due(n: Notice, edged: bool, edges: [bool; 16]) -> bool
-    ensures { result ≡ (edged && noticed n edges) }
+#[tactic(auto, unfolding(model::specs::Notice::noticed, inputs::specs::Passes::any_masked))]
+fn notice_due(n: Notice, edges: Option<[bool; 16]>) -> bool
+    ensures { result ≡ noticed_in n edges }
 {
-    if !edged {
-        return false;
+    match edges {
+        Some(found) => n.format != 0 && inputs::any_masked(n.mask, found),
+        None => false,
     }
-    if n.format == 0 {
-        return false;
-    }
-    inputs::any_masked(n.mask, edges)
 }
 
 // The notice that the sampled inputs make due, or no bytes.
 fn notice(address: u8, n: Notice, s: Sampled) -> Data
-    ensures { result ≡ data_of (cond (s.edged && noticed n s.edges) (notice_frame address n s.inputs) []) }
+    ensures { result ≡ data_of (cond (noticed_in n s.edges) (notice_frame address n s.inputs) []) }
 {
-    let edges = s.edges;
-    if notice_due(n, s.edged, edges) {
-        let x = s.inputs;
-        return notice_frame(address, n, x);
+    if notice_due(n, s.edges) {
+        return notice_frame(address, n, s.inputs);
     }
     encoding::empty()
 }
@@ -52,17 +48,11 @@ fn notice(address: u8, n: Notice, s: Sampled) -> Data
 pub fn handle(m: Module, bits: u16) -> Handled
     ensures { handling result ≡ handled_of (sampled bits m) }
 {
-    let x = m.inputs;
-    let os = m.outputs;
-    let kept = m.settings;
-    let modes = kept.modes;
-    let s = inputs::sample(kept.sampling, modes, x, bits);
-    let p = m.spinel;
-    let reply = notice(p.address, kept.notice, s);
-    let stepped = s.inputs;
-    let pulsed = outputs::pulse_outputs(os);
+    let s = inputs::sample(m.settings.sampling, m.settings.modes, m.inputs, bits);
+    let reply = notice(m.spinel.address, m.settings.notice, s);
+    let pulsed = outputs::pulse_outputs(m.outputs);
     let mut after = m;
-    after.inputs = stepped;
+    after.inputs = s.inputs;
     after.outputs = pulsed;
     Handled {
         refusal: None,
@@ -75,18 +65,13 @@ pub fn handle(m: Module, bits: u16) -> Handled
 pub fn heat(m: Module, good: bool, tenths: i16) -> Module
     ensures { result ≡ taken (reading_of good tenths) m }
 {
-    let os = m.outputs;
-    let kept = m.settings;
-    let hs = kept.thermostats;
-    let before = m.last;
-    let t = heating::take_reading(os, hs, before, thermostat::reading_of(good, tenths));
+    let r = thermostat::reading_of(good, tenths);
+    let t = heating::take_reading(m.outputs, m.settings.thermostats, m.last, r);
     let outputs = t.outputs;
-    let reading = t.reading;
-    let last = t.last;
     Module {
         outputs,
-        reading,
-        last,
+        reading: t.reading,
+        last: t.last,
         ..m
     }
 }

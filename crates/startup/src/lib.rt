@@ -15,6 +15,7 @@ const PORT: Port = Port {
 };
 
 // The settings of a fresh module.
+#[tactic(auto, unfolding(model::specs::State::fresh_module))]
 fn fresh_settings() -> Settings
     ensures { result ≡ fresh_module.settings }
 {
@@ -32,6 +33,7 @@ fn fresh_settings() -> Settings
 }
 
 // The fresh state.
+#[tactic(auto, unfolding(model::specs::State::fresh_module))]
 pub fn fresh() -> Module
     ensures { result ≡ fresh_module }
 {
@@ -67,6 +69,7 @@ fn reset_inputs(x: Inputs) -> Inputs
 }
 
 // A reset: outputs off, no pulse, counter or run left, no port permitted; all else stays.
+#[tactic(auto, unfolding(model::specs::Counters::reset))]
 pub fn reset_state(m: Module) -> Module
     ensures { result ≡ reset m }
 {

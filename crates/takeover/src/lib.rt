@@ -7,14 +7,15 @@ ghost use Rattle.takeover.specs.Across.{CyclesConservedAcross};
 
 use model::{Inputs, Line, Module, Notice, Output, Port, Preset, Reading, Settings, Thermostat};
 
-// What samples changed of the inputs.
+// What samples changed of the inputs. The types of this state are spelt out, and not the model's with another counter: a setting
+// that the model gets later is none of theirs.
 #[derive(Drop)]
 pub struct InputsBefore {
     pub lines: [Line; 16],
     pub counters: [u16; 16],
 }
 
-// A port. This type and the next are spelt out, and not the model's: a setting that the model gets later is none of theirs.
+// A port.
 #[derive(Clone, Copy)]
 pub struct PortBefore {
     pub address: u8,
@@ -52,40 +53,50 @@ fn widen(cs: [u16; 16]) -> [u32; 16]
 }
 
 // States, runs and counters.
-fn inputs_over(x: InputsBefore) -> Inputs
-    ensures { result ≡ inputs_over x }
-{
-    let lines = x.lines;
-    let cs = x.counters;
-    let counters = widen(cs);
-    Inputs { lines, counters }
+impl From<InputsBefore> for Inputs {
+    ghost from_gives = { λ x inputs. inputs ≡ inputs_over x };
+
+    fn from(x: InputsBefore) -> Inputs {
+        let lines = x.lines;
+        Inputs {
+            lines,
+            counters: widen(x.counters),
+        }
+    }
 }
 
 // Every setting.
-fn settings_over(s: SettingsBefore) -> Settings
-    ensures { result ≡ settings_over s }
-{
-    let modes = s.modes;
-    let presets = s.presets;
-    let thermostats = s.thermostats;
-    let notice = s.notice;
-    Settings {
-        modes,
-        sampling: s.sampling,
-        presets,
-        thermostats,
-        notice,
+impl From<SettingsBefore> for Settings {
+    ghost from_gives = { λ s settings. settings ≡ settings_over s };
+
+    fn from(s: SettingsBefore) -> Settings {
+        let SettingsBefore {
+            modes,
+            sampling,
+            presets,
+            thermostats,
+            notice,
+        } = s;
+        Settings {
+            modes,
+            sampling,
+            presets,
+            thermostats,
+            notice,
+        }
     }
 }
 
 // Address, speed and permission.
-fn port_over(p: PortBefore) -> Port
-    ensures { result ≡ port_over p }
-{
-    Port {
-        address: p.address,
-        speed: p.speed,
-        permitted: p.permitted,
+impl From<PortBefore> for Port {
+    ghost from_gives = { λ p port. port ≡ port_over p };
+
+    fn from(p: PortBefore) -> Port {
+        Port {
+            address: p.address,
+            speed: p.speed,
+            permitted: p.permitted,
+        }
     }
 }
 
@@ -93,25 +104,15 @@ fn port_over(p: PortBefore) -> Port
 pub fn take_over(b: ModuleBefore) -> Module
     ensures { result ≡ taken_over b }
 {
-    let x = b.inputs;
-    let s = b.settings;
     let outputs = b.outputs;
-    let reading = b.reading;
-    let last = b.last;
-    let sp = b.spinel;
-    let mb = b.modbus;
-    let inputs = inputs_over(x);
-    let settings = settings_over(s);
-    let spinel = port_over(sp);
-    let modbus = port_over(mb);
     Module {
-        inputs,
+        inputs: Inputs::from(b.inputs),
         outputs,
-        settings,
-        reading,
-        last,
-        spinel,
-        modbus,
+        settings: Settings::from(b.settings),
+        reading: b.reading,
+        last: b.last,
+        spinel: Port::from(b.spinel),
+        modbus: Port::from(b.modbus),
     }
 }
 

@@ -69,7 +69,8 @@ fn cross(on: bool, h: Thermostat, last: Reading, now: i16, o: Output) -> Output
     o
 }
 
-// One output at a valid sample, by its thermostat's SS.
+// One output at a valid sample, by its thermostat's SS. The four parameters are the definition's: a struct of them would be made here
+// to be taken apart in the next.
 pub fn heat(last: Reading, now: i16, h: Thermostat, o: Output) -> Output
     ensures { result ≡ heated last now h o }
 {

@@ -19,7 +19,7 @@ loop-i-init c = (omega arith, some_none _)
 pub loop-i-preserved : goal.loop-i-preserved
 loop-i-preserved c =
     let a = c.args in
-    (omega arith, rw (c.bit_at-bit.ensures, c.loop-i.invariant.1) (some_turn (λ k. get_or a.edged k false && bit_at a.mask k) c.loop-i.i))
+    (omega arith, rw (c.bit_at.ensures, c.loop-i.invariant.1) (some_turn (λ k. get_or a.edged k false && bit_at a.mask k) c.loop-i.i))
 
 pub returns : goal.returns
 unfolding any_masked

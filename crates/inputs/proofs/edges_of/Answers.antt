@@ -1,33 +1,13 @@
--- `inputs::edges_of` meets its contract. The loop's invariant: the edges before `i`, then none. Assumes nothing.
-use borrow.Author.Rules.{rules}
-use native.Mathlib.Omega.{arith}
-use Prim.Native.Nat.{◌<◌}
-use mathlib.Core.Bool.{false}
-use mathlib.Core.Path.{◌≡◌, sym, ◌∙◌}
-use lib.ListN.{length, get_or}
-use Rattle.lists.proofs.DataLaws.{made_turn, made_all}
-use Rattle.lists.proofs.Done.{get_or-mapi, length-mapi}
+-- `inputs::edges_of` meets its contract. Assumes nothing.
+use Rattle.std.proofs.Common.{rules}
+use lib.ListN.{get_or}
 use Rattle.model.specs.State.{fresh_line}
 use Rattle.model.specs.Samples.{is_edge, edges}
+use Rattle.lists.proofs.Made.{made}
 use Rattle.inputs.proofs.edges_of.Goals as goal
-use Rattle.inputs.proofs.edges_of.Goals.{Start}
-
-lines_long : (c : Start) → length c.args.was ≡ 16
-lines_long c = search rules
-
-long : (c : Start) → length (edges c.args.was c.args.now) ≡ 16
-unfolding edges
-long c = length-mapi _ c.args.was ∙ lines_long c
-
-pub loop-i-preserved : goal.loop-i-preserved
-unfolding edges
-loop-i-preserved c =
-    let a = c.args in
-    let t : c.loop-i.i < 16 = omega arith in
-    let edge = get_or-mapi (λ k x. is_edge x (get_or a.now k fresh_line)) a.was c.loop-i.i fresh_line false (rw (lines_long (goal.at.loop-i-preserved c).Start) t) in
-    made_turn false (edges a.was a.now) c.loop-i.found c.loop-i.i (long (goal.at.loop-i-preserved c).Start) c.loop-i.invariant (c.is_edge.ensures ∙ sym edge) t
 
 pub returns : goal.returns
+unfolding edges
 returns c =
     let a = c.args in
-    made_all false (edges a.was a.now) c.loop-i.found c.loop-i.i (long (goal.at.returns c).Start) c.loop-i.invariant (omega arith)
+    made _ (λ i x. is_edge x (get_or a.now i fresh_line)) _ a.was _ 16 c.from_fn.ensures.items (search rules) fresh_line (λ k y q l e. search rules)

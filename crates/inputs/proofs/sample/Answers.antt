@@ -5,20 +5,21 @@ use lib.ListN.{length}
 use Rattle.lists.proofs.DataLaws.{field_length}
 use Rattle.inputs.proofs.Edges.{with_edge, without_edge}
 use Rattle.inputs.proofs.sample.Goals as goal
-use Rattle.inputs.proofs.sample.Goals.{After-sample_lines-now, Start}
+use Rattle.inputs.proofs.sample.Goals.{After-sample_lines-lines, Start}
 
-lines_long : (c : After-sample_lines-now) → length c.sample_lines-now.result ≡ 16
+lines_long : (c : After-sample_lines-lines) → length c.sample_lines-lines.result ≡ 16
 lines_long c = search rules
 
 counters-long : (c : Start) → length c.args.x.counters ≡ 16
 counters-long c = field_length c.args.x.counters (search rules)
 
-pub returns-then-edged : goal.returns-then-edged
-returns-then-edged c =
+pub returns-then-not-any_edge : goal.returns-then-not-any_edge
+returns-then-not-any_edge c =
     let a = c.args in
-    with_edge a.bits a.sampling a.modes a.x _ c.sample_lines-now.ensures _ c.edges_of-edges.ensures _ c.any_edge-edged.ensures _ c.count_lines-counted.ensures
+    let at = goal.at.returns-then-not-any_edge c in
+    without_edge a.bits a.sampling a.modes a.x _ c.sample_lines-lines.ensures _ c.edges_of-edges.ensures (sym c.if-not-any_edge.true ∙ c.any_edge.ensures) (lines_long at.After-sample_lines-lines ∙ sym (counters-long at.Start))
 
-pub returns-else-edged : goal.returns-else-edged
-returns-else-edged c =
+pub returns : goal.returns
+returns c =
     let a = c.args in
-    without_edge a.bits a.sampling a.modes a.x _ c.sample_lines-now.ensures _ c.edges_of-edges.ensures _ c.any_edge-edged.ensures c.if-edged.false (lines_long (goal.at.returns-else-edged c).After-sample_lines-now ∙ sym (counters-long (goal.at.returns-else-edged c).Start))
+    with_edge a.bits a.sampling a.modes a.x _ c.sample_lines-lines.ensures _ c.edges_of-edges.ensures _ c.count_lines-counters.ensures (sym c.if-not-any_edge.false ∙ c.any_edge.ensures)

@@ -20,7 +20,7 @@ pub loop-i-preserved : goal.loop-i-preserved
 loop-i-preserved c =
     let a = c.args.a in
     let h : c.loop-i.i < length a = rw (long (goal.at.loop-i-preserved c).Start) (omega arith) in
-    (omega arith, rw (c.sample_line.ensures, c.bit_at-bit.ensures, c.loop-i.invariant.1) (done_turn _ _ a fresh_line h))
+    (omega arith, rw (c.sample_line.ensures, c.bit_at.ensures, c.loop-i.invariant.1) (done_turn _ _ a fresh_line h))
 
 pub returns : goal.returns
 unfolding lines_sampled

@@ -7,4 +7,4 @@ pub returns : goal.returns
 unfolding selected_edge
 returns c =
     let a = c.args in
-    selected_formula a.mode a.was.stable a.now.stable
+    rw c.is_edge.ensures (selected_formula a.mode a.was.stable a.now.stable)

@@ -4,14 +4,14 @@ use borrow.Author.Tests.{lt-leb}
 use Rattle.model.specs.Samples.{line_sampled}
 use Rattle.lines.proofs.sample_line.Goals as goal
 
-pub returns-then-bit-stable : goal.returns-then-bit-stable
+pub returns-then-bit-x : goal.returns-then-bit-x
 unfolding line_sampled
-returns-then-bit-stable c = simp c.if-bit-stable.true
+returns-then-bit-x c = simp c.if-bit-x.true
 
-pub returns-then-sampling-more : goal.returns-then-sampling-more
+pub returns-then-from : goal.returns-then-from
 unfolding line_sampled
-returns-then-sampling-more c = simp (le-leb _ _ c.if-sampling-more.true, c.if-bit-stable.false)
+returns-then-from c = simp (le-leb _ _ (rw (c.from.ensures, c.from-2.ensures) at c.if-from.true), c.if-bit-x.false)
 
 pub returns : goal.returns
 unfolding line_sampled
-returns c = simp (lt-leb _ _ c.if-sampling-more.false, c.if-bit-stable.false)
+returns c = simp (lt-leb _ _ (rw (c.from.ensures, c.from-2.ensures) at c.if-from.false), c.if-bit-x.false)
