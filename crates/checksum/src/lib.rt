@@ -23,6 +23,7 @@ pub fn spinel_sum(s: &[u8]) -> u8
 }
 
 // One bit of the CRC, the lowest first.
+#[tactic(auto, unfolding(model::specs::Frames::crc_bit))]
 pub fn crc_bit(c: u16) -> u16
     ensures { result ≡ crc_bit c }
 {
@@ -30,6 +31,7 @@ pub fn crc_bit(c: u16) -> u16
 }
 
 // One byte of the CRC: it goes into the low byte, then eight bits are passed.
+#[tactic(auto, unfolding(model::specs::Frames::crc_byte))]
 pub fn crc_byte(c: u16, b: u8) -> u16
     ensures { result ≡ crc_byte c b }
 {
@@ -41,6 +43,7 @@ pub fn crc_byte(c: u16, b: u8) -> u16
 }
 
 // CRC of a Modbus frame over the bytes before it.
+#[tactic(auto, unfolding(model::specs::Frames::crc_of))]
 pub fn crc16(s: &[u8]) -> u16
     ensures { result ≡ crc_of s.now }
 {

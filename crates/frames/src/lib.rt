@@ -1,7 +1,7 @@
 // Checks 2 to 6 of both ports' frames (01, the refusals), and where their data stand.
 #![tactic(auto)]
 
-ghost use Rattle.std.specs.Prelude.{◌≡◌, ◌≤◌, cond, length, IfOk};
+ghost use Rattle.std.specs.Prelude.{◌≡◌, ◌≤◌, ◌+◌, ◌-◌, cond, length, take, drop, IfOk};
 ghost use Rattle.model.specs.Frames.{spinel_data, modbus_body};
 ghost use Rattle.model.specs.Numbers.{refused_by};
 ghost use Rattle.model.specs.Refusals.{frame_length_wrong, shape_wrong, sum_wrong, crc_wrong, spinel_address_wrong, modbus_address_wrong, spinel_broadcast_wrong, modbus_broadcast_wrong};
@@ -59,12 +59,12 @@ fn crc_refusal(frame: &[u8]) -> Result<(), Refusal>
     encoding::refused_if(wrong, Refusal::Checksum)
 }
 
-// 5. Neither the own address, nor FE, nor FF.
+// 5. Neither the own address, nor FE, nor FF. The ports' rules stand apart, each as the definitions have it.
 #[tactic(auto, unfolding(model::specs::Refusals::spinel_address_wrong))]
 fn spinel_address_refusal(own: u8, to: u8) -> Result<(), Refusal>
     ensures { refused_by result ≡ cond (spinel_address_wrong own to) 5 0 }
 {
-    encoding::refused_if(!(to == own || to == 0xFE || to == 0xFF), Refusal::Address)
+    encoding::refused_if(!(to == own || matches!(to, 0xFE | 0xFF)), Refusal::Address)
 }
 
 // 5. Neither the own address, nor 0.
@@ -120,18 +120,24 @@ pub fn modbus_refusal(own: u8, frame: &[u8]) -> Result<(), Refusal>
     modbus_broadcast_refusal(frame[0], frame[1])
 }
 
-// The data of a Spinel frame: all between instruction and SUM; none where the frame is too short.
+// The bytes from `start` to the last two; none where the frame is too short.
+fn between(start: usize, frame: &[u8]) -> &[u8]
+    ensures { result.now ≡ take (length frame.now - (start + 2)) (drop start frame.now) }
+{
+    let end = frame.len().saturating_sub(2);
+    frame.get(start..end).unwrap_or(&[])
+}
+
+// The data of a Spinel frame: all between instruction and SUM.
 pub fn spinel_data(frame: &[u8]) -> &[u8]
     ensures { result.now ≡ spinel_data frame.now }
 {
-    let end = frame.len().saturating_sub(2);
-    frame.get(7..end).unwrap_or(&[])
+    between(7, frame)
 }
 
-// The body of a Modbus frame: all between function and CRC; none where the frame is too short.
+// The body of a Modbus frame: all between function and CRC.
 pub fn modbus_body(frame: &[u8]) -> &[u8]
     ensures { result.now ≡ modbus_body frame.now }
 {
-    let end = frame.len().saturating_sub(2);
-    frame.get(2..end).unwrap_or(&[])
+    between(2, frame)
 }

@@ -48,11 +48,11 @@ fn reply_out(h: Handled, reply: &mut [u8]) -> Answer
     ensures value { result ≡ record { refusal = refusal_in h.refusal; len = h.reply.len; after = h.after } }
     ensures reply_after { reply.new ≡ over (bytes_in h.reply) reply.old }
 {
-    let len = h.reply.len;
-    reply[..len].copy_from_slice(&h.reply.items[..len]);
+    let bytes = h.reply.as_slice();
+    reply[..bytes.len()].copy_from_slice(bytes);
     Answer {
         refusal: h.refusal.map_or(0, Refusal::number),
-        len,
+        len: bytes.len(),
         after: h.after,
     }
 }
@@ -80,7 +80,9 @@ pub fn sample(m: Module, bits: u16, reply: &mut [u8]) -> Answer
     reply_out(sampling::handle(m, bits), reply)
 }
 
-// The temperature sample: whether the value is good, and its tenths. It has no buffer and no refusal.
+// The temperature sample: whether the value is good, and its tenths, which 01 gives with a bad one too. It has no buffer and no
+// refusal.
+#[tactic(auto, unfolding(model::specs::Calls::temperature_call))]
 pub fn temperature(m: Module, good: bool, tenths: i16) -> Answer
     ensures { result ≡ answer_of (temperature_call 0 good tenths m) }
 {
@@ -92,6 +94,7 @@ pub fn temperature(m: Module, good: bool, tenths: i16) -> Answer
 }
 
 // A frame on the Spinel port.
+#[tactic(auto, using(crate::proofs::Frames::spinel_room))]
 pub fn spinel(m: Module, frame: &[u8], reply: &mut [u8]) -> Answer
     ensures { Answered (spinel_call (length reply.old) frame.now m) result reply.old reply.new }
 {
@@ -99,6 +102,7 @@ pub fn spinel(m: Module, frame: &[u8], reply: &mut [u8]) -> Answer
 }
 
 // A frame on the Modbus port.
+#[tactic(auto, using(crate::proofs::Frames::modbus_room))]
 pub fn modbus(m: Module, frame: &[u8], reply: &mut [u8]) -> Answer
     ensures { Answered (modbus_call (length reply.old) frame.now m) result reply.old reply.new }
 {
@@ -107,16 +111,19 @@ pub fn modbus(m: Module, frame: &[u8], reply: &mut [u8]) -> Answer
 
 // Demand 1: of every call in every state, by which number it is refused and what a refusal leaves, in the definitions that the
 // calls above promise. It does nothing.
+#[tactic(auto, using(model::proofs::Refused::refusals_hold))]
 pub fn refusals_hold()
     ensures { RefusalsHold }
 {}
 
 // Demand 3: over every list of these calls from the fresh state, edges are collected plus counter. It does nothing.
+#[tactic(auto, using(model::proofs::Conservation::conserved))]
 pub fn cycles_conserved()
     ensures { CyclesConserved }
 {}
 
 // The same from any state and tally that agree in an input (E4), of which the fresh ones are a case. It does nothing.
+#[tactic(auto, using(model::proofs::Conservation::conserved_from))]
 pub fn cycles_conserved_from()
     ensures { CyclesConservedFrom }
 {}

@@ -76,7 +76,8 @@ fn read_reading(reading: Reading, b: &[u8]) -> Result<Data, Refusal>
 
 // Writing --------------------------------------------------------------------------------
 
-// The register groups that 06 (a single value) and 10H write, by the first register; the values are lent, two bytes each.
+// The register groups that 06 (a single value) and 10H write, by the first register; the values are lent, two bytes each. Here and in
+// the functions that it picks the two stay two parameters, as the definitions take them.
 #[tactic(auto, unfolding(model::specs::Modbus::registers_written, lists::specs::Tests::within, model::specs::Refusals::judged))]
 fn write_group(
     m: Module,

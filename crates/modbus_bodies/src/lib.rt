@@ -11,7 +11,8 @@ ghost use Rattle.modbus_bodies.specs.Parts.{head_of, echoed};
 use model::Refusal;
 use outcomes::Served;
 
-// Start and quantity that a function which reads asks for; 8: other than these two, or a quantity that is not 1 to `most`.
+// Start and quantity that a function which reads asks for; 8: other than these two, or a quantity that is not 1 to `most`. A pair and
+// no struct: the definitions take the two by themselves, and a write of registers has a start and its values.
 #[tactic(auto, unfolding(model::specs::Modbus::quantity_wrong, lists::specs::Tests::within))]
 pub fn part_asked(most: u16, b: &[u8]) -> Result<(u16, u16), Refusal>
     ensures number { refused_by result ≡ cond (quantity_wrong most b.now) 8 0 }
@@ -40,9 +41,6 @@ pub fn echo(written: Result<Served, Refusal>, b: &[u8]) -> Result<Served, Refusa
     ensures { (m : ModuleOf) → outcome m result ≡ echoed (head_of b.now) (outcome m written) }
 {
     let after = written?.after;
-    let first = encoding::push(encoding::empty(), encoding::at(b, 0));
-    let second = encoding::push(first, encoding::at(b, 1));
-    let third = encoding::push(second, encoding::at(b, 2));
-    let body = encoding::push(third, encoding::at(b, 3));
+    let body = (0..4).fold(encoding::empty(), |d, i| d.push(encoding::at(b, i)));
     Ok(Served { after, body })
 }

@@ -1,17 +1,7 @@
 -- The framing of any reply data: its first bytes, as many as a reply has room for.
-use Rattle.std.specs.Prelude.{ℕ, List, [], ◌∷◌, ◌++◌, take}
-use Rattle.lists.specs.Numbers.{bytes}
-use Rattle.lists.specs.Data.{data_of, bytes_in}
-use Rattle.lists.specs.Data.{Data}
+use Rattle.std.specs.Prelude.{ℕ, take}
+use Rattle.lists.specs.Data.{Data, data_of, bytes_in}
 use Rattle.model.specs.Frames.{spinel_reply, modbus_reply}
-
--- what stands before a Spinel reply's data
-unfoldable pub spinel_head : ℕ → ℕ → ℕ → ℕ → List ℕ
-spinel_head num address signature ack = 0x2A ∷ 0x61 ∷ bytes 2 num ++ address ∷ signature ∷ ack ∷ []
-
--- before a Modbus reply's body
-abbrev pub modbus_head : ℕ → ℕ → List ℕ
-modbus_head address function = address ∷ function ∷ []
 
 -- 256 bytes less the 9 that frame them
 unfoldable pub spinel_replied : ℕ → ℕ → ℕ → Data → Data

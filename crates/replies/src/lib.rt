@@ -1,16 +1,17 @@
 // The framing of both ports' replies and exceptions (01, Frames), and the ACK or code that tells a refusal.
 #![tactic(auto)]
 
-ghost use Rattle.std.specs.Prelude.{◌≡◌, ◌+◌, ◌≤◌};
+ghost use Rattle.std.specs.Prelude.{◌≡◌, ◌+◌, ◌≤◌, ◌++◌, length, take};
 ghost use Rattle.std.proofs.Math.Seq.{paste};
 ghost use Rattle.lists.specs.Data.{padded, data_of};
-ghost use Rattle.model.specs.Frames.{exception_function, exception_reply};
+ghost use Rattle.model.specs.Frames.{modbus_reply, exception_function, exception_reply};
 ghost use Rattle.model.specs.Refusals.{ack_of, exception_of};
-ghost use Rattle.replies.specs.Replies.{spinel_head, modbus_head, spinel_replied, modbus_replied};
+ghost use Rattle.replies.specs.Replies.{spinel_replied, modbus_replied};
 
 use lists::Data;
 
 // The ACK that tells a refusal; 00 tells that there is none. It takes every number: an enum would take fewer.
+#[tactic(auto, unfolding(model::specs::Refusals::ack_of))]
 pub fn ack_of(n: u8) -> u8
     ensures { result ≡ ack_of n }
 {
@@ -23,6 +24,7 @@ pub fn ack_of(n: u8) -> u8
 }
 
 // A refusal's exception code, of every number too.
+#[tactic(auto, unfolding(model::specs::Refusals::exception_of))]
 pub fn exception_of(n: u8) -> u8
     ensures { result ≡ exception_of n }
 {
@@ -34,39 +36,43 @@ pub fn exception_of(n: u8) -> u8
     }
 }
 
-// The array with the first n bytes of `from` stored from place `at` on.
-fn place(start: [u8; 256], at: usize, from: Data, n: usize) -> [u8; 256]
-    requires { at + n ≤ 256 }
-    ensures { result ≡ paste start at from.items n }
+// The array with some bytes stored from place `at` on.
+fn place(start: [u8; 256], at: usize, from: &[u8]) -> [u8; 256]
+    requires { at + length from.now ≤ 256 }
+    ensures { result ≡ paste start at from.now (length from.now) }
 {
     let mut bytes = start;
-    bytes[at..at + n].copy_from_slice(&from.items[..n]);
+    bytes[at..at + from.len()].copy_from_slice(from);
     bytes
 }
 
-// What stands before a Spinel reply's data: 2A 61, NUM, address, signature and ACK.
-fn spinel_head(num: u16, address: u8, signature: u8, ack: u8) -> [u8; 256]
-    ensures { result ≡ padded (spinel_head num address signature ack) }
+// A reply up to its last two bytes, its head and then its data, in the one array that is filled in place.
+#[tactic(auto, using(crate::proofs::Framing::begun_law))]
+fn begun(head: &[u8], d: &[u8]) -> [u8; 256]
+    requires { length head.now + length d.now ≤ 254 }
+    ensures { result ≡ padded (head.now ++ d.now) }
 {
-    let mut bytes = [0u8; 256];
-    bytes[0] = 0x2A;
-    bytes[1] = 0x61;
-    bytes[2] = encoding::high_byte(num);
-    bytes[3] = encoding::low_byte(num);
-    bytes[4] = address;
-    bytes[5] = signature;
-    bytes[6] = ack;
-    bytes
+    place(place([0; 256], 0, head), head.len(), d)
 }
 
-// A Spinel reply: head, data, SUM and 0D. One array is filled in place.
+// A Spinel reply: 2A 61, NUM, address, signature and ACK, then data, SUM and 0D.
 pub fn spinel_reply(address: u8, signature: u8, ack: u8, d: Data) -> Data
     ensures { result ≡ spinel_replied address signature ack d }
 {
-    let n = d.len.min(247);
+    let shown = d.as_slice();
+    let n = shown.len().min(247);
     let num = (n as u16) + 5;
+    let head = [
+        0x2A,
+        0x61,
+        encoding::high_byte(num),
+        encoding::low_byte(num),
+        address,
+        signature,
+        ack,
+    ];
     let end = 7 + n;
-    let mut bytes = place(spinel_head(num, address, signature, ack), 7, d, n);
+    let mut bytes = begun(&head, &shown[..n]);
     let sum = checksum::spinel_sum(&bytes[..end]);
     bytes[end] = sum;
     bytes[end + 1] = 0x0D;
@@ -76,23 +82,13 @@ pub fn spinel_reply(address: u8, signature: u8, ack: u8, d: Data) -> Data
     }
 }
 
-// What stands before a Modbus reply's body.
-fn modbus_head(address: u8, function: u8) -> [u8; 256]
-    ensures { result ≡ padded (modbus_head address function) }
+// Address, function and body, then their CRC, low byte first.
+fn modbus_frame(address: u8, function: u8, body: &[u8]) -> Data
+    ensures { result ≡ data_of (modbus_reply address function (take 252 body.now)) }
 {
-    let mut bytes = [0u8; 256];
-    bytes[0] = address;
-    bytes[1] = function;
-    bytes
-}
-
-// A Modbus reply: head and body, then their CRC, low byte first.
-pub fn modbus_reply(address: u8, function: u8, body: Data) -> Data
-    ensures { result ≡ modbus_replied address function body }
-{
-    let n = body.len.min(252);
+    let n = body.len().min(252);
     let end = 2 + n;
-    let mut bytes = place(modbus_head(address, function), 2, body, n);
+    let mut bytes = begun(&[address, function], &body[..n]);
     let crc = checksum::crc16(&bytes[..end]);
     bytes[end] = encoding::low_byte(crc);
     bytes[end + 1] = encoding::high_byte(crc);
@@ -102,28 +98,25 @@ pub fn modbus_reply(address: u8, function: u8, body: Data) -> Data
     }
 }
 
-// The function of an exception: its top bit set, if it was not.
+// A Modbus reply: a frame from this address with the body's bytes.
+#[tactic(auto, unfolding(crate::specs::Replies::modbus_replied))]
+pub fn modbus_reply(address: u8, function: u8, body: Data) -> Data
+    ensures { result ≡ modbus_replied address function body }
+{
+    modbus_frame(address, function, body.as_slice())
+}
+
+// The function of an exception: its top bit set.
+#[tactic(auto, using(crate::proofs::Framing::top_bit))]
 fn exception_function(function: u8) -> u8
     ensures { result ≡ exception_function function }
 {
-    if function < 128 {
-        function + 128
-    } else {
-        function
-    }
+    function | 0x80
 }
 
 // An exception reply: a Modbus reply of that function, whose body is the code.
 pub fn exception_reply(address: u8, function: u8, code: u8) -> Data
     ensures { result ≡ data_of (exception_reply address function code) }
 {
-    let mut bytes = modbus_head(address, exception_function(function));
-    bytes[2] = code;
-    let crc = checksum::crc16(&bytes[..3]);
-    bytes[3] = encoding::low_byte(crc);
-    bytes[4] = encoding::high_byte(crc);
-    Data {
-        items: bytes,
-        len: 5,
-    }
+    modbus_frame(address, exception_function(function), &[code])
 }

@@ -50,6 +50,7 @@ pub trait Wire {
 }
 
 // The reply to a frame: none where it goes to all modules.
+#[tactic(auto, unfolding(model::specs::Wire::frame_answered))]
 fn answer<W: Wire>(own: u8, frame: &[u8], answer: Result<Data, Refusal>) -> Data
     ensures { (m : ModuleOf) → result ≡ data_of (frame_answered W.wire own frame.now (done_of W.room m (told answer))).reply }
 {
@@ -66,13 +67,7 @@ fn act<W: Wire>(m: Module, frame: &[u8]) -> Handled
 {
     let port = W::port(&m);
     let own = port.address;
-    let used = W::with_port(
-        m,
-        Port {
-            permitted: false,
-            ..port
-        },
-    );
+    let used = W::with_port(m, port_effects::permitted(port, false));
     match W::serve(used, port.permitted, frame) {
         Ok(served) => Handled {
             refusal: None,
@@ -88,6 +83,7 @@ fn act<W: Wire>(m: Module, frame: &[u8]) -> Handled
 }
 
 // Any frame: checks 2 to 6, then what it asks for.
+#[tactic(auto, unfolding(model::specs::Wire::frame_handled))]
 pub fn handle<W: Wire>(m: Module, frame: &[u8]) -> Handled
     ensures { handling result ≡ handled_of (frame_handled W.wire frame.now m) }
 {

