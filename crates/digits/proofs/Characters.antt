@@ -10,7 +10,7 @@ use lib.ListN.{length, drop, set, replicate, length-append}
 use lib.Seq.{drop-cons, drop-set-lt, get_or-set_same, lt-length-set}
 use borrow.Author.Tests.{lt-ltb, le-ltb, ltb-false}
 use Rattle.digits.specs.Writing.{character, written, places_in, places, decimal_text, padded}
-use Rattle.lists.proofs.DataLaws.{filled_push, filled_more}
+use Rattle.lists.proofs.DataLaws.{filled_push}
 
 pub length-written : (base w n : ℕ) → length (written base w n) ≡ w
 unfolding written
@@ -27,6 +27,10 @@ places_within (suc j) k n h = go (ltb n 10) k refl h (λ i. places_within j i (n
     go true k e h f = omega arith
     go false zero e h f = absurd (let z : ⊥ = omega (arith, ltb-false n 10 e) in z)
     go false (suc k) e h f = omega (arith, f k (omega (arith, rw (pow-suc 10 (suc k)) at h)))
+
+-- a number of 64 bits has at most twenty
+pub places_most : (n : ℕ) → n < 2 ^ 64 → places n ≤ 20
+places_most n h = places_within 19 19 n (omega arith)
 
 pub length-decimal : (k n : ℕ) → n < 10 ^ suc k → length (decimal_text n) ≤ suc k
 length-decimal k n h = rw (length-written 10 (places n) n) (places_within 19 k n h)
@@ -67,8 +71,3 @@ stored base (suc j) left bytes h k =
 pub padded_push : (w : ℕ) (l : List ℕ) (b : ℕ) → length l < w → set (padded w l) (length l) b ≡ padded w (l ++ b ∷ [])
 unfolding padded
 padded_push w l b h = filled_push w 0 l b h
-
--- the same characters in more room
-pub padded_more : (v w : ℕ) (l : List ℕ) → length l ≤ v → v ≤ w → padded v l ++ replicate (w - v) 0 ≡ padded w l
-unfolding padded
-padded_more v w l h k = filled_more v w 0 l h k

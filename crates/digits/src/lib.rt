@@ -1,4 +1,5 @@
-// Numbers as text, in decimal and in hexadecimal: read, and written.
+// Numbers as text, in decimal and in hexadecimal: read, and written. By hand: std's `parse` takes text and a plus sign, and its
+// `format!` an allocator; a script is bytes, and playing it cannot fail.
 #![tactic(auto)]
 
 ghost use Rattle.std.specs.Prelude.{◌≡◌, ◌<◌, ◌≤◌};
@@ -23,12 +24,13 @@ pub fn digit_of(b: u8) -> Option<u8>
     }
 }
 
-// The value of a digit below the base; a byte that is no digit stands for 16, as the definition says.
+// The value of a digit below the base; a byte that is no digit stands for 16, as the definition says of every base.
+#[tactic(auto, using(crate::proofs::Digits::digit_or))]
 fn digit_below(base: u8, b: u8) -> Option<u8>
     ensures { result ≡ found base (digit b) }
 {
     let d = digit_of(b).unwrap_or(16);
-    if d < base { Some(d) } else { None }
+    (d < base).then_some(d)
 }
 
 // The number of some digits, below 65,536.
@@ -70,7 +72,7 @@ pub fn hex_of(n: usize, w: &[u8]) -> Option<u16>
 fn positive_of(n: u16) -> Option<u16>
     ensures { result ≡ found 65536 (positive n) }
 {
-    if n < 32768 { Some(n) } else { None }
+    (n < 32768).then_some(n)
 }
 
 // A number after a minus as a pattern of 16 bits.
@@ -78,11 +80,7 @@ fn positive_of(n: u16) -> Option<u16>
 fn negative_of(n: u16) -> Option<u16>
     ensures { result ≡ found 65536 (negative n) }
 {
-    if n <= 32768 {
-        Some(n.wrapping_neg())
-    } else {
-        None
-    }
+    (n <= 32768).then_some(n.wrapping_neg())
 }
 
 // A signed number as a pattern of 16 bits.
@@ -106,7 +104,7 @@ fn character_of(d: u8) -> u8
     if d < 10 { b'0' + d } else { b'A' + (d - 10) }
 }
 
-// How many decimal digits a number has.
+// How many decimal digits a number has. `checked_ilog10` gives one less, and nothing for 0, which is no plainer.
 fn places_of(n: u64) -> usize
     ensures { result ≡ places n }
 {
@@ -120,7 +118,7 @@ fn places_of(n: u64) -> usize
     20
 }
 
-// The lowest digits of a number, stored from the last to the first.
+// The lowest digits of a number, stored from the last to the first: by places, since `iter_mut().rev()` is no shorter.
 fn written_of(base: u64, len: usize, n: u64) -> Numeral
     requires base_nonzero { 0 < base }
     requires base_bound { base ≤ 16 }
@@ -137,6 +135,7 @@ fn written_of(base: u64, len: usize, n: u64) -> Numeral
 }
 
 // A number in decimal, without leading zeros.
+#[tactic(auto, using(crate::proofs::Characters::places_most))]
 pub fn decimal_text(n: u64) -> Numeral
     ensures { result ≡ numeral_of (decimal_text n) }
 {

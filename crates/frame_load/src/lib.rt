@@ -25,6 +25,7 @@ pub struct Outcome {
 }
 
 // No call yet: counters that cover thousands of deductions, each another number, the first of them above 65,535.
+#[tactic(auto, unfolding(crate::specs::Play::ready_to_play))]
 fn ready() -> Played
     ensures { result ≡ ready_to_play }
 {
@@ -44,6 +45,7 @@ fn ready() -> Played
 }
 
 // The frame on its port: a `bool` and no enum, as the signature of `frame_play` for C has it.
+#[tactic(auto, unfolding(crate::specs::Play::act_of))]
 fn call(m: Module, modbus: bool, frame: &[u8], reply: &mut [u8]) -> Answer
     ensures { Answered (acted (length reply.old) (act_of modbus frame.now) m) result reply.old reply.new }
 {
@@ -54,6 +56,7 @@ fn call(m: Module, modbus: bool, frame: &[u8], reply: &mut [u8]) -> Answer
 }
 
 // One call more.
+#[tactic(auto, unfolding(crate::specs::Play::play_one, crate::specs::Play::buffer_one))]
 fn play_one(p: Played, modbus: bool, frame: &[u8], reply: &mut [u8]) -> Played
     ensures value { result ≡ play_one (length reply.old) (act_of modbus frame.now) p }
     ensures reply_after { reply.new ≡ buffer_one (length reply.old) (act_of modbus frame.now) p reply.old }
@@ -67,6 +70,7 @@ fn play_one(p: Played, modbus: bool, frame: &[u8], reply: &mut [u8]) -> Played
 }
 
 // n calls, one after another.
+#[tactic(auto, unfolding(crate::specs::Play::play_many, crate::specs::Play::buffer_many))]
 fn play(p: Played, n: u32, modbus: bool, frame: &[u8], reply: &mut [u8]) -> Played
     ensures value { result ≡ play_many (length reply.old) (act_of modbus frame.now) n p }
     ensures reply_after { reply.new ≡ buffer_many (length reply.old) (act_of modbus frame.now) n p reply.old }

@@ -29,13 +29,9 @@ fn sample_text(m: Module, bits: u16) -> Printed
     let mut reply = [0u8; 256];
     let a = iomodule::sample(m, bits, &mut reply);
     if a.len == 0 {
-        let none = Text {
-            items: [0; 772],
-            len: 0,
-        };
         return Printed {
             after: a.after,
-            text: none,
+            text: Text::empty(0),
         };
     }
     let text = texts::answer_text(a.refusal, &reply[..a.len]);
@@ -45,7 +41,8 @@ fn sample_text(m: Module, bits: u16) -> Printed
     }
 }
 
-// The port that a frame comes to.
+// The port that a frame comes to. A closure in its place is no plainer: it would take the state, the frame and the lent buffer, and
+// promise what is written there.
 #[derive(Clone, Copy)]
 enum Port {
     Spinel,
@@ -114,6 +111,7 @@ fn play_toggles(rt: &impl Print, m: Module, bits: u16, second: u16, times: u16) 
 }
 
 // A temperature prints nothing.
+#[tactic(auto, unfolding(model::specs::Calls::temperature_call))]
 fn play_temperature(m: Module, good: bool, tenths: i16) -> Module
     ensures { result ≡ (temperature_call 256 good tenths m).after }
 {

@@ -20,6 +20,10 @@ pub failed : {A : Type 0} (r : Result A Reason) {e d : Reason} → IsErr r × Is
 failed (Ok l) h f = absurd h.1
 failed (Err x) h f = rw (h.1, f)
 
+-- the word that was found
+pub word_there : {A : Type 0} (P : Type 0) (Q : A → Type 0) {o : Option A} {x : A} → MatchOption o P Q → o ≡ Some x → Q x
+word_there P Q h e = rw e at h
+
 -- where no word was found, none is left
 pub no_word : {A : Type 0} (o : Option A) {P : Type 0} (Q : A → Type 0) → false ≡ is_some o → MatchOption o P Q → P
 no_word None Q e h = h

@@ -64,10 +64,10 @@ impl fmt::Display for Reason {
 fn is_blank(b: u8) -> bool
     ensures { result ≡ blank b }
 {
-    b == b' ' || b == b'\t'
+    matches!(b, b' ' | b'\t')
 }
 
-// How many blanks a line starts with.
+// How many blanks a line starts with. A function over the test, for this and the next two, would be one call of std's as they are.
 fn blanks(s: &[u8]) -> usize
     ensures { result ≡ leading blank s.now }
 {
@@ -126,10 +126,9 @@ fn bits_of(w: &[u8]) -> Result<u16, Reason>
 fn times_of(w: &[u8]) -> Result<u16, Reason>
     ensures { MatchResult result (λ n. (n ≡ decimal w.now) × (n < 65536) × (0 < n)) (λ e. (e ≡ BadNumber) × ((eqb (decimal w.now) 0 || ltb 65535 (decimal w.now)) ≡ true)) }
 {
-    match digits::decimal_of(w) {
-        None | Some(0) => Err(Reason::BadNumber),
-        Some(n) => Ok(n),
-    }
+    digits::decimal_of(w)
+        .filter(|n| *n != 0)
+        .ok_or(Reason::BadNumber)
 }
 
 // The words after `sample`.
@@ -137,9 +136,7 @@ fn times_of(w: &[u8]) -> Result<u16, Reason>
 fn sample_of(s: &[u8]) -> Result<Line, Reason>
     ensures { parsed_of result ≡ sample (parts s.now) }
 {
-    let Some((bits, s)) = next_word(s) else {
-        return Err(Reason::MissingWord);
-    };
+    let (bits, s) = next_word(s).ok_or(Reason::MissingWord)?;
     let Some((times, s)) = next_word(s) else {
         let bits = bits_of(bits)?;
         return Ok(Line::Samples { bits, times: 1 });
@@ -157,15 +154,9 @@ fn sample_of(s: &[u8]) -> Result<Line, Reason>
 fn toggle_of(s: &[u8]) -> Result<Line, Reason>
     ensures { parsed_of result ≡ toggle (parts s.now) }
 {
-    let Some((first, s)) = next_word(s) else {
-        return Err(Reason::MissingWord);
-    };
-    let Some((second, s)) = next_word(s) else {
-        return Err(Reason::MissingWord);
-    };
-    let Some((times, s)) = next_word(s) else {
-        return Err(Reason::MissingWord);
-    };
+    let (first, s) = next_word(s).ok_or(Reason::MissingWord)?;
+    let (second, s) = next_word(s).ok_or(Reason::MissingWord)?;
+    let (times, s) = next_word(s).ok_or(Reason::MissingWord)?;
     if next_word(s).is_some() {
         return Err(Reason::TooManyWords);
     }
@@ -184,19 +175,15 @@ fn toggle_of(s: &[u8]) -> Result<Line, Reason>
 fn temperature_of(s: &[u8]) -> Result<Line, Reason>
     ensures { parsed_of result ≡ temperature (parts s.now) }
 {
-    let Some((word, s)) = next_word(s) else {
-        return Err(Reason::MissingWord);
-    };
+    let (word, s) = next_word(s).ok_or(Reason::MissingWord)?;
     if next_word(s).is_some() {
         return Err(Reason::TooManyWords);
     }
     if word == b"fault".as_slice() {
         return Ok(Line::Fault);
     }
-    match digits::signed_decimal_of(word) {
-        Some(pattern) => Ok(Line::Temperature(encoding::signed_of(pattern))),
-        None => Err(Reason::BadNumber),
-    }
+    let pattern = digits::signed_decimal_of(word).ok_or(Reason::BadNumber)?;
+    Ok(Line::Temperature(encoding::signed_of(pattern)))
 }
 
 // A byte in two hex digits.
@@ -211,10 +198,7 @@ fn byte_of(w: &[u8]) -> Result<u8, Reason>
 fn frame_of(s: &[u8]) -> Result<Frame, Reason>
     ensures { (k : ℕ) → frame_parsed k result ≡ framed (of_kind k) (parts s.now) }
 {
-    let mut frame = Frame {
-        items: [0; 300],
-        len: 0,
-    };
+    let mut frame = Frame::empty(0);
     let mut rest = s;
     while let Some((word, behind)) = next_word(rest) {
         if 300 <= frame.len {
@@ -226,7 +210,7 @@ fn frame_of(s: &[u8]) -> Result<Frame, Reason>
     Ok(frame)
 }
 
-// A call by its first word and what follows it.
+// A call by its first word and what follows it. A `match` on the word is compared byte by byte: a goal for each byte that differs.
 fn called_of(word: &[u8], s: &[u8]) -> Result<Line, Reason>
     ensures { parsed_of result ≡ called (keyword word.now) (parts s.now) }
 {
@@ -240,12 +224,10 @@ fn called_of(word: &[u8], s: &[u8]) -> Result<Line, Reason>
         return temperature_of(s);
     }
     if word == b"spinel".as_slice() {
-        let frame = frame_of(s)?;
-        return Ok(Line::Spinel(frame));
+        return frame_of(s).map(Line::Spinel);
     }
     if word == b"modbus".as_slice() {
-        let frame = frame_of(s)?;
-        return Ok(Line::Modbus(frame));
+        return frame_of(s).map(Line::Modbus);
     }
     Err(Reason::UnknownWord)
 }

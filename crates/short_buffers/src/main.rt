@@ -8,13 +8,12 @@ ghost use Rattle.short_buffers.specs.Tries.{kept_of, act_of, tried};
 
 use model::{Answer, Module};
 
-// Which call: a sample with its bits, or a frame on a port. No closure in its place is plainer: the three calls differ in what they
-// take, and their names are printed.
+// One call: a sample of these bits, or a frame on its port. No closure in its place is plainer: the calls' names are printed.
 #[derive(Clone, Copy)]
-enum Kind {
+enum Call<'a> {
     Sample(u16),
-    Spinel,
-    Modbus,
+    Spinel(&'a [u8]),
+    Modbus(&'a [u8]),
 }
 
 // How many bytes are still EE.
@@ -24,25 +23,26 @@ fn kept(b: &[u8]) -> usize
     b.iter().filter(|x| **x == 0xEE).count()
 }
 
-// One call; a sample has no frame.
-fn make(m: Module, kind: Kind, frame: &[u8], reply: &mut [u8]) -> Answer
-    ensures { Answered (acted (length reply.old) (act_of kind frame.now) m) result reply.old reply.new }
+// The call made.
+#[tactic(auto, unfolding(crate::specs::Tries::act_of))]
+fn make(m: Module, call: Call, reply: &mut [u8]) -> Answer
+    ensures { Answered (acted (length reply.old) (act_of call.entry) m) result reply.old reply.new }
 {
-    match kind {
-        Kind::Sample(bits) => iomodule::sample(m, bits, reply),
-        Kind::Spinel => iomodule::spinel(m, frame, reply),
-        Kind::Modbus => iomodule::modbus(m, frame, reply),
+    match call {
+        Call::Sample(bits) => iomodule::sample(m, bits, reply),
+        Call::Spinel(frame) => iomodule::spinel(m, frame, reply),
+        Call::Modbus(frame) => iomodule::modbus(m, frame, reply),
     }
 }
 
 // Functions that only print, and main, have no contract: std promises nothing of what is written, and a write that fails
 // is passed over. The gate holds it to the file `stdout`.
 
-fn print_kind(rt: &impl Print, kind: Kind) {
-    let _ = match kind {
-        Kind::Sample(_) => rt.write_all(b"sample, "),
-        Kind::Spinel => rt.write_all(b"spinel, "),
-        Kind::Modbus => rt.write_all(b"modbus, "),
+fn print_name(rt: &impl Print, call: Call) {
+    let _ = match call {
+        Call::Sample(_) => rt.write_all(b"sample, "),
+        Call::Spinel(_) => rt.write_all(b"spinel, "),
+        Call::Modbus(_) => rt.write_all(b"modbus, "),
     };
 }
 
@@ -55,16 +55,10 @@ fn print_refusal(rt: &impl Print, refusal: u8) {
     let _ = print!(rt; "refused by {refusal}");
 }
 
-// A blank and the two digits of a byte.
-fn print_byte(rt: &impl Print, b: u8) {
-    let pair = digits::hex_text(b);
-    let text = [b' ', pair.items[0], pair.items[1]];
-    let _ = rt.write_all(&text);
-}
-
+// A blank and the two digits of each byte.
 fn print_bytes(rt: &impl Print, bytes: &[u8]) {
     for b in bytes {
-        print_byte(rt, *b);
+        let _ = print!(rt; " {:02X}", *b);
     }
 }
 
@@ -79,37 +73,38 @@ fn print_line(rt: &impl Print, room: usize, refusal: u8, reply: &[u8], same: usi
 }
 
 // The state after a call on a buffer filled with EE, its line printed.
-fn told(rt: &impl Print, m: Module, kind: Kind, frame: &[u8], reply: &mut [u8]) -> Module
-    ensures value { result ≡ (acted (length reply.old) (act_of kind frame.now) m).after }
-    ensures reply_after { reply.new ≡ over (acted (length reply.old) (act_of kind frame.now) m).reply reply.old }
+fn told(rt: &impl Print, m: Module, call: Call, reply: &mut [u8]) -> Module
+    ensures value { result ≡ (acted (length reply.old) (act_of call.entry) m).after }
+    ensures reply_after { reply.new ≡ over (acted (length reply.old) (act_of call.entry) m).reply reply.old }
 {
-    let a = make(m, kind, frame, reply);
+    let a = make(m, call, reply);
     let len = a.len;
     let same = kept(&reply[len..]);
-    print_kind(rt, kind);
+    print_name(rt, call);
     print_line(rt, reply.len(), a.refusal, &reply[..len], same);
     a.after
 }
 
 // The same with `room` bytes.
-fn attempt(rt: &impl Print, m: Module, kind: Kind, frame: &[u8], room: usize) -> Module
+fn attempt(rt: &impl Print, m: Module, call: Call, room: usize) -> Module
     requires { room ≤ 256 }
-    ensures { result ≡ (acted room (act_of kind frame.now) m).after }
+    ensures { result ≡ (acted room (act_of call.entry) m).after }
 {
     let mut space = [0xEEu8; 256];
-    told(rt, m, kind, frame, &mut space[..room])
+    told(rt, m, call, &mut space[..room])
 }
 
 // A call with the four lengths, and a Spinel or Modbus read before and after the one that is accepted.
-fn attempts(rt: &impl Print, m: Module, kind: Kind, frame: &[u8], port: Kind, read: &[u8]) -> Module
-    ensures { result ≡ run m (tried (act_of kind frame.now) (act_of port read.now)) }
+#[tactic(auto, unfolding(model::specs::Calls::run, model::specs::Calls::step))]
+fn attempts(rt: &impl Print, m: Module, call: Call, read: Call) -> Module
+    ensures { result ≡ run m (tried (act_of call.entry) (act_of read.entry)) }
 {
-    let none = attempt(rt, m, kind, frame, 0);
-    let one = attempt(rt, none, kind, frame, 1);
-    let short = attempt(rt, one, kind, frame, 255);
-    let before = attempt(rt, short, port, read, 256);
-    let after = attempt(rt, before, kind, frame, 256);
-    attempt(rt, after, port, read, 256)
+    let none = attempt(rt, m, call, 0);
+    let one = attempt(rt, none, call, 1);
+    let short = attempt(rt, one, call, 255);
+    let before = attempt(rt, short, read, 256);
+    let after = attempt(rt, before, call, 256);
+    attempt(rt, after, read, 256)
 }
 
 fn main(rt: HostRuntime) {
@@ -117,18 +112,18 @@ fn main(rt: HostRuntime) {
     let number = b"\x2A\x61\x00\x06\x31\x02\x62\x01\xD8\x0D";
     let mode = b"\x2A\x61\x00\x07\x31\x02\x6A\x01\x03\xCC\x0D";
     let notice = b"\x2A\x61\x00\x06\x31\x02\x10\x01\x2A\x0D";
-    let numbered = attempt(&rt, iomodule::fresh(), Kind::Spinel, number, 256);
-    let counting = attempt(&rt, numbered, Kind::Spinel, mode, 256);
-    let ready = attempt(&rt, counting, Kind::Spinel, notice, 256);
+    let numbered = attempt(&rt, iomodule::fresh(), Call::Spinel(number), 256);
+    let counting = attempt(&rt, numbered, Call::Spinel(mode), 256);
+    let ready = attempt(&rt, counting, Call::Spinel(notice), 256);
     let _ = rt.write_all(b"sample 0001; counter 1 by 60H\n");
     let counter = b"\x2A\x61\x00\x06\x31\x02\x60\x01\xDA\x0D";
-    let sampled = attempts(&rt, ready, Kind::Sample(1), b"", Kind::Spinel, counter);
+    let sampled = attempts(&rt, ready, Call::Sample(1), Call::Spinel(counter));
     let _ = rt.write_all(b"20H output 1 on; outputs by 30H\n");
     let first = b"\x2A\x61\x00\x06\x31\x02\x20\x81\x9A\x0D";
     let outputs = b"\x2A\x61\x00\x05\x31\x02\x30\x0C\x0D";
-    let set = attempts(&rt, sampled, Kind::Spinel, first, Kind::Spinel, outputs);
+    let set = attempts(&rt, sampled, Call::Spinel(first), Call::Spinel(outputs));
     let _ = rt.write_all(b"05 coil 1 on; coils by 01\n");
     let second = b"\x31\x05\x00\x01\xFF\x00\xD8\x0A";
     let coils = b"\x31\x01\x00\x00\x00\x10\x38\x36";
-    attempts(&rt, set, Kind::Modbus, second, Kind::Modbus, coils);
+    attempts(&rt, set, Call::Modbus(second), Call::Modbus(coils));
 }

@@ -1,37 +1,40 @@
 -- Laws of the loops that store an answer's characters. Assumes nothing.
-use Prim.Native.Nat.{ℕ, ◌+◌, ◌*◌, ◌/◌, ◌%◌, ◌<◌, ◌≤◌}
+use Prim.Native.Nat.{ℕ, ◌+◌, ◌*◌, ◌<◌, ◌≤◌}
 use native.Mathlib.Numerals.{add-one}
 use native.Mathlib.Omega.{arith}
 use mathlib.Core.Path.{◌≡◌, refl, sym, ap, ◌∙◌}
-use mathlib.Core.List.{List, [], ◌∷◌, ◌++◌, append_assoc, append-nil}
+use mathlib.Core.List.{List, [], ◌∷◌, ◌++◌, foldl, append_assoc, append-nil}
 use borrow.Author.Tests.{lt-ltb}
-use lib.ListN.{length, take, drop, get_or, replicate, length-append}
-use lib.Seq.{take-suc}
-use Rattle.digits.specs.Writing.{Numeral, character, written, decimal_text, hex_text, padded, numeral_of}
-use Rattle.digits.proofs.Characters.{padded_push, padded_more, length-decimal}
+use lib.ListN.{length, take, get_or, length-append}
+use lib.Seq.{take-suc, take-append_seam}
+use Rattle.digits.specs.Writing.{Numeral, written, decimal_text, hex_text, padded, numeral_of}
+use Rattle.digits.proofs.Characters.{padded_push, length-decimal, length-written}
 use Rattle.texts.specs.Texts.{Text, bytes_text, text_of}
 use Rattle.lists.specs.Bounded.{added}
-use Rattle.lists.proofs.Parts.{drop_zeros}
 
--- a numeral's characters in a text
-pub copied : (l : List ℕ) {number : Numeral} {part : List ℕ} → length l ≤ 20 → number ≡ numeral_of l → part ≡ number.items → ◌≡◌ {A = Text} (record { items = part ++ drop 20 (replicate 772 0); len = number.len }) (text_of l)
-copied l h e f = rw (f, e, drop_zeros 20 772, padded_more 20 772 l h (omega arith))
+-- a numeral's characters
+shown : (l : List ℕ) {number : Numeral} → number ≡ numeral_of l → take number.len number.items ≡ l
+unfolding padded
+shown l e = rw e (take-append_seam l _)
 
 -- one character more
 pub push_law : (l : List ℕ) (b : ℕ) {t : Text} → length l < 772 → t ≡ text_of l → added t b ≡ text_of (l ++ b ∷ [])
 unfolding added
 push_law l b h e = rw (e, lt-ltb (length l) 772 h, padded_push 772 l b h, length-append)
 
+-- some characters more
+append_law : (l m : List ℕ) {t : Text} → length l + length m ≤ 772 → t ≡ text_of l → foldl added t m ≡ text_of (l ++ m)
+append_law l [] h e = rw append-nil e
+append_law l (b ∷ m) h e =
+    append_law (l ++ b ∷ []) m (simp length-append (omega arith)) (push_law l b (omega arith) e) ∙ ap text_of (append_assoc l (b ∷ []) m)
+
+pub push_numeral : (l m : List ℕ) {number : Numeral} {t : Text} {s : List ℕ} → length l + length m ≤ 772 → number ≡ numeral_of m → s ≡ take number.len number.items → t ≡ text_of l → foldl added t s ≡ text_of (l ++ m)
+push_numeral l m h e f q = rw (f, shown m e) (append_law l m h q)
+
 -- a blank and the two digits of a byte
-pub push_byte : (l : List ℕ) (b : ℕ) {pair : Numeral} {t : Text} → length l + 2 < 772 → pair ≡ numeral_of (hex_text b) → t ≡ text_of l → added (added (added t 32) (get_or pair.items 0 0)) (get_or pair.items 1 0) ≡ text_of (l ++ 32 ∷ hex_text b)
-unfolding written padded
-push_byte l b {pair} {t} h e q =
-    let x = character (b / 16 % 16) in
-    let y = character (b % 16) in
-    let two : length (l ++ 32 ∷ []) < 772 = simp length-append (omega arith) in
-    let three : length ((l ++ 32 ∷ []) ++ x ∷ []) < 772 = simp length-append (omega arith) in
-    let one : added t 32 ≡ text_of (l ++ 32 ∷ []) = push_law l 32 (omega arith) q in
-    rw e (push_law ((l ++ 32 ∷ []) ++ x ∷ []) y three (push_law (l ++ 32 ∷ []) x two one) ∙ ap text_of (append_assoc (l ++ 32 ∷ []) (x ∷ []) (y ∷ []) ∙ append_assoc l (32 ∷ []) (x ∷ y ∷ [])))
+pub push_byte : (l : List ℕ) (b : ℕ) {pair : Numeral} {t : Text} {s : List ℕ} → length l + 2 < 772 → pair ≡ numeral_of (hex_text b) → s ≡ take pair.len pair.items → t ≡ text_of l → foldl added (added t 32) s ≡ text_of (l ++ 32 ∷ hex_text b)
+push_byte l b h e f q =
+    push_numeral (l ++ 32 ∷ []) (hex_text b) (simp (length-append, length-written 16 2 b) (omega arith)) e f (push_law l 32 (omega arith) q) ∙ ap text_of (append_assoc l (32 ∷ []) (hex_text b))
 
 -- the bytes of a reply, one more
 bytes_snoc : (l : List ℕ) (b : ℕ) → bytes_text (l ++ b ∷ []) ≡ bytes_text l ++ 32 ∷ hex_text b

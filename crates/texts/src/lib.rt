@@ -7,20 +7,15 @@ ghost use Rattle.texts.specs.Texts.{text_of, answer_text};
 
 use lists::Bounded;
 
-// Characters by value; what stands behind those that count is 0. An array and no `String`: playing a script cannot fail.
+// Characters by value; what stands behind those that count is 0. An array and no `String`, and no `write!`: playing a script cannot
+// fail, and the text is proved.
 pub type Text = Bounded<u8, 772>;
 
 // A number in decimal.
 fn number_text(n: u8) -> Text
     ensures { result ≡ text_of (decimal_text n) }
 {
-    let number = digits::decimal_text(u64::from(n));
-    let mut items = [0u8; 772];
-    items[..20].copy_from_slice(&number.items);
-    Text {
-        items,
-        len: number.len,
-    }
+    Text::empty(0).append(digits::decimal_text(u64::from(n)).as_slice())
 }
 
 // The number that an answer carries, a blank and two hex digits for each byte of the reply, and a line feed. No reply has more
@@ -31,8 +26,7 @@ pub fn answer_text(refusal: u8, reply: &[u8]) -> Text
     let shown = &reply[..reply.len().min(256)];
     let mut out = number_text(refusal);
     for b in shown {
-        let pair = digits::hex_text(*b);
-        out = out.push(b' ').push(pair.items[0]).push(pair.items[1]);
+        out = out.push(b' ').append(digits::hex_text(*b).as_slice());
     }
     out.push(b'\n')
 }

@@ -6,7 +6,7 @@ use Rattle.player.proofs.sample_text.Goals as goal
 
 pub returns-then-a-eq0 : goal.returns-then-a-eq0
 unfolding padded
-returns-then-a-eq0 c = notice_none c.sample-a.ensures c.if-a-eq0.true
+returns-then-a-eq0 c = rw c.empty.ensures (notice_none c.sample-a.ensures c.if-a-eq0.true)
 
 pub returns : goal.returns
 returns c =

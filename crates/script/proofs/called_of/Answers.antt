@@ -1,8 +1,8 @@
 -- `script::called_of` meets its contract. Assumes nothing.
-use mathlib.Core.Path.{refl, ap, ◌∙◌}
+use mathlib.Core.Path.{◌∙◌}
+use borrow.Author.Rules.{rules}
 use Rattle.script.proofs.Sames.{same_is}
-use Rattle.script.specs.Results.{parsed_of}
-use Rattle.script.proofs.Calls.{failed, called_sample, called_toggle, called_temperature, called_spinel, called_modbus, called_other}
+use Rattle.script.proofs.Calls.{called_sample, called_toggle, called_temperature, called_spinel, called_modbus, called_other}
 use Rattle.script.proofs.called_of.Goals as goal
 
 pub returns-then-eq : goal.returns-then-eq
@@ -16,21 +16,13 @@ pub returns-then-eq-3 : goal.returns-then-eq-3
 returns-then-eq-3 c =
     c.temperature_of.ensures ∙ called_temperature _ _ (same_is _ c.as_slice.ensures c.if-eq.ensures) (same_is _ c.as_slice-2.ensures c.if-eq-2.ensures) (same_is _ c.as_slice-3.ensures c.if-eq-3.ensures)
 
-pub returns-in_err-frame : goal.returns-in_err-frame
-returns-in_err-frame c =
-    ap parsed_of (failed _ c.from_residual.ensures refl) ∙ c.in_err-frame.ensures 4 ∙ called_spinel _ _ (same_is _ c.as_slice.ensures c.if-eq.ensures) (same_is _ c.as_slice-2.ensures c.if-eq-2.ensures) (same_is _ c.as_slice-3.ensures c.if-eq-3.ensures) (same_is _ c.as_slice-4.ensures c.if-eq-4.ensures)
-
 pub returns-then-eq-4 : goal.returns-then-eq-4
 returns-then-eq-4 c =
-    c.in_ok-frame.ensures 4 ∙ called_spinel _ _ (same_is _ c.as_slice.ensures c.if-eq.ensures) (same_is _ c.as_slice-2.ensures c.if-eq-2.ensures) (same_is _ c.as_slice-3.ensures c.if-eq-3.ensures) (same_is _ c.as_slice-4.ensures c.if-eq-4.ensures)
-
-pub returns-in_err-frame-2 : goal.returns-in_err-frame-2
-returns-in_err-frame-2 c =
-    ap parsed_of (failed _ c.from_residual-in_err-frame-2.ensures refl) ∙ c.in_err-frame-2.ensures 5 ∙ called_modbus _ _ (same_is _ c.as_slice.ensures c.if-eq.ensures) (same_is _ c.as_slice-2.ensures c.if-eq-2.ensures) (same_is _ c.as_slice-3.ensures c.if-eq-3.ensures) (same_is _ c.as_slice-4.ensures c.if-eq-4.ensures) (same_is _ c.as_slice-5.ensures c.if-eq-5.ensures)
+    search rules ∙ c.frame_of.ensures 4 ∙ called_spinel _ _ (same_is _ c.as_slice.ensures c.if-eq.ensures) (same_is _ c.as_slice-2.ensures c.if-eq-2.ensures) (same_is _ c.as_slice-3.ensures c.if-eq-3.ensures) (same_is _ c.as_slice-4.ensures c.if-eq-4.ensures)
 
 pub returns-then-eq-5 : goal.returns-then-eq-5
 returns-then-eq-5 c =
-    c.in_ok-frame-2.ensures 5 ∙ called_modbus _ _ (same_is _ c.as_slice.ensures c.if-eq.ensures) (same_is _ c.as_slice-2.ensures c.if-eq-2.ensures) (same_is _ c.as_slice-3.ensures c.if-eq-3.ensures) (same_is _ c.as_slice-4.ensures c.if-eq-4.ensures) (same_is _ c.as_slice-5.ensures c.if-eq-5.ensures)
+    search rules ∙ c.frame_of-then-eq-5.ensures 5 ∙ called_modbus _ _ (same_is _ c.as_slice.ensures c.if-eq.ensures) (same_is _ c.as_slice-2.ensures c.if-eq-2.ensures) (same_is _ c.as_slice-3.ensures c.if-eq-3.ensures) (same_is _ c.as_slice-4.ensures c.if-eq-4.ensures) (same_is _ c.as_slice-5.ensures c.if-eq-5.ensures)
 
 pub returns : goal.returns
 returns c = called_other _ _ (same_is _ c.as_slice.ensures c.if-eq.ensures) (same_is _ c.as_slice-2.ensures c.if-eq-2.ensures) (same_is _ c.as_slice-3.ensures c.if-eq-3.ensures) (same_is _ c.as_slice-4.ensures c.if-eq-4.ensures) (same_is _ c.as_slice-5.ensures c.if-eq-5.ensures)
