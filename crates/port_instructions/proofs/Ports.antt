@@ -31,8 +31,25 @@ module _ (m : Module) (universal : Bool) (d : List ℕ) where
   unfolding give_permission
   permission_given g f = done_later m permission (some_data d) 7 _ permission_first _ (data_of []) g f refl refl
 
+-- a request that asks for its length, then for the permission, then for its values
+module _ (m : Module) (q : Request Module) (wrong closed : Bool) (misfit : ℕ) (first : refusal_of q ≡ cond wrong 8 (cond closed 10 misfit)) where
+  by_length : Refused m q (cond wrong 8 0)
+  by_length = refused_first m q wrong 7 _ first
+
+  by_permission : Passes wrong 8 → Refused m q (cond closed 10 0)
+  by_permission g r e = refused_later m q wrong 7 _ first r g (stops closed 10 misfit r e)
+
+  by_value : Passes wrong 8 → Passes closed 10 → Refused m q misfit
+  by_value g f r e = refused_later m q wrong 7 _ first r g (e ∙ goes closed 9 misfit f)
+
+  by_none : (p : Module) → p ≡ q.after → q.reply ≡ [] → Passes wrong 8 → Passes closed 10 → 0 ≡ misfit → Done m q p
+  by_none p a r g f e = done_later m q wrong 7 _ first p (data_of []) g (e ∙ goes closed 9 misfit f) a (rw r refl)
+
 module _ (m : Module) (permitted universal : Bool) (d : List ℕ) where
   -- E0H
+  abbrev port : Request Module
+  port = set_port permitted universal d m
+
   abbrev wrong : Bool
   wrong = not (eqb (length d) 2)
 
@@ -43,20 +60,20 @@ module _ (m : Module) (permitted universal : Bool) (d : List ℕ) where
   abbrev misfit : ℕ
   misfit = cond (ltb 0xFD (get_or d 0 0) || ltb 0x0B (get_or d 1 0)) 11 0
 
-  first : refusal_of (set_port permitted universal d m) ≡ cond wrong 8 (cond closed 10 misfit)
+  first : refusal_of port ≡ cond wrong 8 (cond closed 10 misfit)
   unfolding set_port refusal_of
   first = rw (not-and (within 0 0xFD (get_or d 0 0)) (within 0 0x0B (get_or d 1 0)), within_zero 0xFD (get_or d 0 0), within_zero 0x0B (get_or d 1 0))
 
-  pub port_length : Refused m (set_port permitted universal d m) (cond wrong 8 0)
-  port_length = refused_first m (set_port permitted universal d m) wrong 7 _ first
+  pub port_length : Refused m port (cond wrong 8 0)
+  port_length = by_length m port wrong closed misfit first
 
-  pub port_closed : Passes wrong 8 → Refused m (set_port permitted universal d m) (cond closed 10 0)
-  port_closed g r e = refused_later m (set_port permitted universal d m) wrong 7 _ first r g (stops closed 10 misfit r e)
+  pub port_closed : Passes wrong 8 → Refused m port (cond closed 10 0)
+  port_closed = by_permission m port wrong closed misfit first
 
-  pub port_unfit : Passes wrong 8 → Passes closed 10 → Refused m (set_port permitted universal d m) misfit
-  port_unfit g f r e = refused_later m (set_port permitted universal d m) wrong 7 _ first r g (e ∙ goes closed 9 misfit f)
+  pub port_unfit : Passes wrong 8 → Passes closed 10 → Refused m port misfit
+  port_unfit = by_value m port wrong closed misfit first
 
   pub port_set : Passes wrong 8 → Passes closed 10 → 0 ≡ misfit
-      → Done m (set_port permitted universal d m) (reset (with_spinel m (record { address = get_or d 0 0; speed = get_or d 1 0; permitted = false })))
+      → Done m port (reset (with_spinel m (record { address = get_or d 0 0; speed = get_or d 1 0; permitted = false })))
   unfolding set_port
-  port_set g f e = done_later m (set_port permitted universal d m) wrong 7 _ first _ (data_of []) g (e ∙ goes closed 9 misfit f) refl refl
+  port_set = by_none m port wrong closed misfit first _ refl refl
