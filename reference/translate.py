@@ -20,6 +20,8 @@ FILES = {
              Tally Cycles Parts""".split(),
     "proofs": "Exchanges Wraps Readings Puts GroupTable ClaimTable".split(),
 }
+# definitions by `Bounded.added`, which serve the code alone
+CODE_ALONE = {"Data.pushed", "Data.extended", "Entries.entry_added"}
 
 
 # Expressions --------------------------------------------------------------------------
@@ -325,6 +327,8 @@ class Definitions:
                 scope.update(used(block))
             elif DEFINED.match(block):
                 name = DEFINED.match(block)["name"]
+                if file + "." + name in CODE_ALONE:
+                    continue
                 scope[name] = key = file + "." + name
                 self.clauses[key], self.kinds[key] = [], kind
             elif block.split()[0] in scope and scope[block.split()[0]].startswith(file + ".") and block.split()[1:2] != [":"]:
