@@ -30,8 +30,8 @@ fn word(bytes: &[u8]) -> u16 {
     u16::from_be_bytes([bytes[0], bytes[1]])
 }
 
-// Refusals 1 to 6 on the Spinel port; to all modules (FF) goes none of the four requests.
-fn check_spinel(own: u8, frame: &[u8], room: usize) -> Result<(), u8> {
+// Refusals 1 to 6 on the Spinel port, 4 only where SUM is tested; to all modules (FF) goes none of the four requests.
+fn check_spinel(tested: bool, own: u8, frame: &[u8], room: usize) -> Result<(), u8> {
     let n = frame.len();
     if room < 256 {
         return Err(1);
@@ -42,7 +42,7 @@ fn check_spinel(own: u8, frame: &[u8], room: usize) -> Result<(), u8> {
     if frame[..2] != [0x2A, 0x61] || frame[n - 1] != 0x0D || word(&frame[2..]) as usize != n - 4 {
         return Err(3);
     }
-    if frame[n - 2] != sum(&frame[..n - 2]) {
+    if tested && frame[n - 2] != sum(&frame[..n - 2]) {
         return Err(4);
     }
     match frame[4] {
@@ -127,7 +127,7 @@ impl Module {
     }
 
     pub fn spinel(&mut self, frame: &[u8], reply: &mut [u8]) -> Answer {
-        if let Err(refusal) = check_spinel(self.spinel.address, frame, reply.len()) {
+        if let Err(refusal) = check_spinel(self.sum_tested, self.spinel.address, frame, reply.len()) {
             return Answer { refusal, len: 0 };
         }
         self.spinel.permitted = false;

@@ -69,6 +69,7 @@ pub struct Module {
     pub format: u8,
     pub mask: u16,
     pub signature: u8,
+    pub sum_tested: bool,
     pub spinel: Port,
     pub modbus: Port,
 }
@@ -89,6 +90,7 @@ impl Module {
             format: 0,
             mask: 0,
             signature: 0,
+            sum_tested: true,
             spinel: port,
             modbus: port,
         }

@@ -1,4 +1,4 @@
-"""Documents 01 and 02 (E1, E4) in Python, written from the papers alone: the expected bytes of the tables in crates/model/proofs, and of the programs' stored
+"""Documents 01 and 02 (E1, E4, E5) in Python, written from the papers alone: the expected bytes of the tables in crates/model/proofs, and of the programs' stored
 output where 01 gives another reply than a source, are worked out with it. None is captured from the definitions or from the proved code.
 
 Module has a method for each call: sample, temperature, spinel, modbus. Each answers the refusal's number (0: accepted) and the reply's bytes.
@@ -62,6 +62,7 @@ class Module:
         self.n = 20
         self.out = [Out() for _ in range(16)]
         self.notice = False; self.mask = 0; self.sig = 0
+        self.tested = True       # is SUM tested on the Spinel port
         self.sa, self.ss = 0x31, 6
         self.ma, self.ms = 0x31, 6
         self.sp = False; self.mp = False
@@ -135,7 +136,7 @@ class Module:
         if room < 256: return 1, b''
         if len(fr) < 9 or len(fr) > 256: return 2, b''
         if fr[:2] != b'\x2a\x61' or fr[-1] != 0x0D or fr[2]*256 + fr[3] != len(fr) - 4: return 3, b''
-        if fr[-2] != summ(fr[:-2]): return 4, b''
+        if self.tested and fr[-2] != summ(fr[:-2]): return 4, b''
         a, sig, ins = fr[4:7]
         if a not in (0xFE, 0xFF) and a != self.sa: return 5, b''
         if a == 0xFF and ins not in (0x20, 0x23, 0x25): return 6, b''
@@ -167,7 +168,8 @@ class Module:
                 0x20: one12, 0x23: 2 <= n <= 13, 0x25: one12, 0x26: n % 3 == 0 and 3 <= n <= 36,
                 0x30: n == 0, 0x31: n == 0, 0x33: one12, 0x36: one12, 0x38: one12, 0x51: n == 1,
                 0x60: one12, 0x61: n == 1 or (n % ITEM == 0 and ITEM <= n <= 12 * ITEM), 0x62: n == 1, 0x63: n == 0,
-                0x6A: n % 2 == 0 and 2 <= n <= 24, 0x6B: one12, 0xE0: n == 2, 0xE3: n == 0, 0xE4: n == 0, 0xF0: n == 0}
+                0x6A: n % 2 == 0 and 2 <= n <= 24, 0x6B: one12, 0xE0: n == 2, 0xE3: n == 0, 0xE4: n == 0, 0xEE: n == 1,
+                0xF0: n == 0, 0xFE: n == 0}
         if ins not in lens: raise Ref(7)
         if not lens[ins]: raise Ref(8)
         return getattr(self, 'i%02X' % ins)(d, a, sig, perm)
@@ -295,7 +297,13 @@ class Module:
         if a == 0xFE: raise Ref(10)
         self.sp = True
         return b''
+    def iEE(self, d, a, sig, perm):
+        if not perm: raise Ref(10)
+        if d[0] > 1: raise Ref(11)
+        self.tested = d[0] == 1
+        return b''
     def iF0(self, d, a, sig, perm): return bytes([self.sa, self.ss])
+    def iFE(self, d, a, sig, perm): return bytes([self.tested])
 
     # ------------------------------------------------ Modbus
     def modbus(self, fr, room=256):
@@ -474,3 +482,11 @@ if __name__ == '__main__':
     m.cnt[15] = 0x10000
     assert m.modbus(mod(0x31, 6, be(115) + be(0)))[0] == 0 and m.cnt[15] == 0
     print('counters of 32 bits ok')
+    m = Module(); any_sum = h('2A61000531023000 0D')
+    assert m.spinel(any_sum) == (4, b'') and m.spinel(spin(0x31, 2, 0xFE, [])) == (0, spin(0x31, 2, 0, [1]))
+    assert m.spinel(spin(0x31, 2, 0xEE, [0]))[0] == 10 and m.spinel(spin(0x31, 2, 0xE4, []))[0] == 0 and m.tested
+    assert m.spinel(spin(0x31, 2, 0xEE, [0])) == (0, spin(0x31, 2, 0, [])) and not m.sp
+    assert m.spinel(any_sum) == (0, h('2A6100073102000000 3A0D')) and m.spinel(spin(0x31, 2, 0xE3, []))[0] == 0 and not m.tested
+    assert m.modbus(h('3103006400010000')) == (4, b'')
+    assert m.spinel(h('2A6100053102E4FF0D'))[0] == 0 and m.spinel(h('2A6100063102EE01FF0D'))[0] == 0 and m.spinel(any_sum) == (4, b'')
+    print('test of SUM ok')

@@ -55,6 +55,15 @@ def D(*items, **at):
     return S(0x61, *[b for number, amount in items for b in (number, *amount.to_bytes(4, "big"))], **at)
 
 
+def X(code, *data, a=0x31, s=2, by=1, room=256):
+    """A Spinel request with a wrong SUM, so much above the right one."""
+    return raw("spinel", *off(spinel_frame(a, s, code, data), -2, by), room=room)
+
+
+# after these any SUM will do (E5)
+UNTESTED = [S(0xE4), S(0xEE, 0)]
+
+
 def P(bits, times=1, room=256):
     """Samples of the same sixteen bits."""
     return ("sample", bits, times, room)
@@ -278,8 +287,8 @@ FRAMES = [
     case("spinel_broadcast_others", "6: any other instruction to all, and nothing changes",
          *[S(i, *d, a=0xFF) for i, d in ((0x10, [1]), (0x11, []), (0x1A, group(1, 0, 0, 0)), (0x1B, []), (0x26, [1, 2, 1]), (0x30, []),
            (0x31, []), (0x33, [0]), (0x36, [0]), (0x38, [0]), (0x51, [1]), (0x60, [0]), (0x61, [0]), (0x62, [1]), (0x63, []),
-           (0x6A, [1, 3]), (0x6B, [0]), (0xE0, [0x31, 6]), (0xE3, []), (0xE4, []), (0xF0, []), (0x1F, []), (0x21, [0x81]),
-           (0x22, [1, 0x81]), (0x24, [1, 0x81]), (0x99, []))],
+           (0x6A, [1, 3]), (0x6B, [0]), (0xE0, [0x31, 6]), (0xE3, []), (0xE4, []), (0xEE, [0]), (0xF0, []), (0xFE, []), (0x1F, []),
+           (0x21, [0x81]), (0x22, [1, 0x81]), (0x24, [1, 0x81]), (0x99, []))],
          S(0x11), S(0x36, 1), S(0x63), S(0x6B, 1)),
     case("modbus_lengths", "2: under 4 bytes, or over 256; with 4 and with 256 the function is judged",
          raw("modbus"), raw("modbus", 0x31, 0x07, 0x55), raw("modbus", 0x31, 0x07, 0x55, 0xE2), M(3, *[0] * 252), M(3, *[0] * 253)),
@@ -297,9 +306,32 @@ FRAMES = [
          S(0x1A, *group(1, 0x81, 300, 200)), R(5, 0, 0, a=0), C(0, 1, 0, a=0), R(1, 0, 16)),
     case("spinel_unlisted", "7 for every instruction between the listed ones, whatever the data",
          *[S(i) for i in (0x00, 0x0F, 0x12, 0x19, 0x1C, 0x1F, 0x21, 0x22, 0x24, 0x27, 0x2F, 0x32, 0x34, 0x35, 0x37, 0x39, 0x50, 0x52,
-           0x5F, 0x64, 0x69, 0x6C, 0xDF, 0xE1, 0xE2, 0xE5, 0xEF, 0xF1, 0xFF)], S(0x22, 1, 2)),
+           0x5F, 0x64, 0x69, 0x6C, 0xDF, 0xE1, 0xE2, 0xE5, 0xED, 0xEF, 0xF1, 0xFD, 0xFF)], S(0x22, 1, 2)),
     case("modbus_unlisted", "7 for every other function; the exception has bit 7, 80H and up stay",
          *[M(i) for i in (0x00, 0x07, 0x0E, 0x11, 0x16, 0x7F, 0x80, 0x83, 0xFF)], M(8, 0, 0, 0, 0)),
+    case("any_sum", "SUM untested (E5): one more or less, all bits turned, 0, 255 and the right one; the reply has a right SUM; to FE too",
+         UNTESTED, X(0x30), X(0x30, by=-1), *[raw("spinel", 0x2A, 0x61, 0, 5, 0x31, 2, 0x30, sum_, 0x0D) for sum_ in (0xF3, 0x00, 0xFF, 0x0C)],
+         X(0x30, a=0xFE), X(0xF0, s=9, by=128)),
+    case("any_sum_served", "SUM untested (E5): a deduction, a read that zeroes, a preset, and 20H, 23H, 25H to all, unanswered, refused or not",
+         COUNT3, UNTESTED, X(0x61, 1, 0, 0, 0, 2), S(0x60, 1, 2), X(0x60, 0x82), S(0x60, 1, 2), X(0x26, 3, 3, 2), X(0x20, 0x81, a=0xFF),
+         X(0x23, 2, 0x82, a=0xFF), S(0x33, 1, 2, 3), X(0x25, 3, a=0xFF), X(0x20, 1, 0x91, a=0xFF), S(0x33, 1, 2, 3)),
+    case("any_sum_order", "SUM untested (E5): all but 4 as before and in order, with a wrong SUM: 1, 2, 3, 5, 6; then 7, 8, 10, 13, 11, 12",
+         UNTESTED, X(0x20, 0x81, room=255), raw("spinel", 0x2A, 0x61, 0, 4, 0x31, 2, 0x3E, 0x0D), raw("spinel", *[0] * 257),
+         raw("spinel", 0x2B, 0x61, 0, 5, 0x31, 2, 0x30, 0x0C, 0x0D), raw("spinel", 0x2A, 0x62, 0, 5, 0x31, 2, 0x30, 0x0C, 0x0D),
+         raw("spinel", 0x2A, 0x61, 0, 6, 0x31, 2, 0x30, 0x0C, 0x0D), raw("spinel", 0x2A, 0x61, 1, 5, 0x31, 2, 0x30, 0x0C, 0x0D),
+         raw("spinel", 0x2A, 0x61, 0, 4, 0x31, 2, 0x30, 0x0C, 0x0D),
+         raw("spinel", 0x2A, 0x61, 0, 5, 0x31, 2, 0x30, 0x0D, 0x0C), raw("spinel", 0x2A, 0x61, 0, 5, 0x32, 2, 0x30, 0x00, 0x0E),
+         X(0x30, a=0x32), X(0x20, 0x81, a=0), X(0x60, 0x80, a=0xFF), X(0xEE, 1, a=0xFF), X(0x99, a=0xFF), X(0x99), X(0x30, 0),
+         raw("spinel", 0x2A, 0x61, 0, 5, 0x31, 2, 0x20, 0x81, 0x0D), X(0xE0, 0x31, 6), X(0xEE, 1), X(0xE4, a=0xFE), X(0x61, *[1, 0, 0, 0, 0] * 2), X(0x62, 0),
+         X(0x61, 1, 0, 0, 0, 1), S(0x1A, *group(1, 0x81, 300, 200)), X(0x20, 0x81), X(0x20, 0x81, a=0xFF), S(0x30), S(0xFE)),
+    case("any_sum_every", "SUM untested (E5): every instruction, frames of 67 and 256 bytes; nothing on either port but EEH turns the test on",
+         UNTESTED, X(0xE4), X(0xEE, 0), X(0x10, 1), X(0x11), X(0x1A, *group(1, 0, 0, 0)), X(0x1B), X(0x20, 0x81), X(0x23, 1, 0x82), X(0x26, 1, 2, 1),
+         X(0x25, 1), X(0x30), X(0x31), X(0x33, 1), X(0x36, 1), X(0x38, 1), X(0x51, 1), X(0x60, 1), X(0x61, 0), X(0x62, 1), X(0x63), X(0x6A, 1, 3),
+         X(0x6B, 1), X(0xE3), X(0xF0), X(0xFE), X(0x61, *[b for n in range(1, 13) for b in (n, 0, 0, 0, 0)]), X(0x99, *[0] * 247),
+         R(1, 0, 1), R(2, 0, 1), R(3, 1, 1), R(4, 0, 1), R(5, 0, 0xFF00), R(6, 300, 3), C(0, 1, 1), W(100, 0), samples(1), T(0), bad(0), S(0xFE)),
+    case("any_sum_crc", "SUM untested (E5): a CRC with either byte off is 4, to all too; a right one is accepted",
+         UNTESTED, raw("modbus", 0x31, 1, 0, 0, 0, 0x10, 0x39, 0x36), raw("modbus", 0x31, 1, 0, 0, 0, 0x10, 0x38, 0x37),
+         raw("modbus", *off(modbus_frame(0, 5, words(0, 0xFF00)), -1)), raw("modbus", 0x31, 1, 0, 0, 0, 0x10, 0x38, 0x36), S(0xFE)),
 ]
 
 # Samples and edges ---------------------------------------------------------------------
@@ -435,14 +467,14 @@ COUNTERS = [
 # Permission, address and speed, reset -----------------------------------------------------
 
 # every field of the state unlike the fresh one: inputs 1 to 3 count, states 5, runs begun, outputs and a pulse, presets, thermostats of
-# outputs 5 and 6, a reading and a last one, a notice, both ports permitted
+# outputs 5 and 6, a reading and a last one, a notice, SUM untested, both ports permitted
 FULL = [
     S(0x6A, 1, 3, 2, 1, 3, 2), S(0x62, 2), P(5, 2), P(4, 2), P(5, 2), P(2), S(0x20, 0x81, 0x84), S(0x23, 9, 0x82), S(0x26, 3, 2, 7, 4, 3, 8),
-    S(0x1A, *group(5, 0xC1, 300, 200, 2, 0), *group(6, 0x81, 300, 200)), T(250), S(0x10, 1, 0x00, 0x07, s=7),
+    S(0x1A, *group(5, 0xC1, 300, 200, 2, 0), *group(6, 0x81, 300, 200)), T(250), S(0x10, 1, 0x00, 0x07, s=7), *UNTESTED,
 ]
 # what can be read of it, by both ports
 SHOWN = [
-    S(0x31), S(0x60, 0), S(0x6B, 1, 2, 3), S(0x63), S(0x33, 1, 2, 4), S(0x36, 3, 4), S(0x1B, 5, 6), S(0x51, 1), S(0x11), S(0xF0, a=0xFE),
+    S(0x31), S(0x60, 0), S(0x6B, 1, 2, 3), S(0x63), S(0x33, 1, 2, 4), S(0x36, 3, 4), S(0x1B, 5, 6), S(0x51, 1), S(0x11), S(0xFE), S(0xF0, a=0xFE),
 ]
 # and what only later calls show: the runs, the signature of the notice, the last valid reading, the permission
 LATER = [P(2), S(0x31, a=0xFE), ("sample", 2, 1, 256), T(301), S(0x33, 5, a=0xFE), FAULT, S(0xE0, 0x31, 6)]
@@ -493,6 +525,29 @@ PORTS = [
           (S(0xE3), ack()), (S(0x60, 0), counts(*[0] * 16))),
     case("before", "what the three resets started from",
          FULL, SHOWN, LATER),
+    case("sum_test", "EEH (E5): 00 ends the test of SUM, 01 begins it, also twice; FEH asks, fresh 01; to FE; 6 to all, still permitted",
+         S(0xFE), S(0xE4), S(0xEE, 1), S(0xFE), S(0xE4), S(0xEE, 0), S(0xFE), S(0xE4), S(0xEE, 0), S(0xFE, a=0xFE), S(0xFE, 0), S(0xFE, 1, 1),
+         S(0xE4), S(0xEE, 1, a=0xFF), S(0xFE, a=0xFF), S(0xEE, 1), S(0xFE), S(0xE4), S(0xEE, 0, a=0xFE), S(0xFE)),
+    case("sum_test_refused", "EEH (E5): no data, two bytes: 8, before 10; no permission: 10, before 11; 02 up: 11; each, and 7, ends the permission",
+         S(0xEE), S(0xEE, 0, 0), S(0xEE, 0), S(0xEE, 1), S(0xEE, 2), S(0xEE, 0xFF), S(0xEE, 0, a=0xFE), S(0xE4), S(0xEE), S(0xEE, 0),
+         S(0xE4), S(0xEE, 0, 2), S(0xEE, 0), S(0xEE, 0, 0, 0), S(0xE4), S(0xEE, 2), S(0xEE, 0), S(0xE4), S(0xEE, 0xFF), S(0xEE, 0), S(0xE4), S(0xEE, 0x80, a=0xFE), S(0xE0, 0x31, 6),
+         *[c for v in (3, 4, 0x7F, 0x81, 0xFE) for c in (S(0xE4), S(0xEE, v))],
+         S(0xE4), S(0xED, 0), S(0xEE, 0), S(0xE4), S(0xEF, 0), S(0xFD), S(0xFF), S(0xEE, 0), S(0xFE),
+         UNTESTED, S(0xEE), S(0xEE, 1), S(0xE4), S(0xEE, 2), S(0xEE, 1), S(0xFE)),
+    case("sum_test_once", "an accepted EEH (E5) uses the permission up and resets nothing; the other port's permission does not serve, and stays",
+         COUNT3, S(0x20, 0x82), R(6, 0, 0xFF), S(0xEE, 0), S(0xFE), UNTESTED, S(0xEE, 1), S(0xE4), S(0xEE, 0), S(0xE0, 0x32, 6), S(0xFE), S(0x60, 1, 2), S(0x30),
+         R(6, 1, 0x33), S(0xFE)),
+    case("sum_test_used_up", "FEH, and SUM untested a request with a wrong one that is refused, use the permission up (E5); E0H to FE stays 10",
+         S(0xE4), S(0xFE), S(0xEE, 0), UNTESTED, S(0xE4), X(0x99), S(0xEE, 1), S(0xE4), X(0x30, 0), S(0xEE, 1), S(0xE4), X(0x62, 0), S(0xEE, 1),
+         S(0xE4), S(0xE0, 0x31, 6, a=0xFE), S(0xFE)),
+    case("sum_test_itself", "E4H, EEH, FEH with a wrong SUM (E5): 4 while it is tested, and test and permission stay; untested, each does its work",
+         X(0xE4), S(0xEE, 0), S(0xE4), X(0xEE, 0), X(0x30), X(0xFE), X(0x30, a=0x32), S(0xEE, 0), X(0xFE), X(0xE4), X(0x63), S(0xEE, 1),
+         X(0xE4), X(0xFE, a=0xFF), X(0x30, a=0x32), X(0xE0, 0x31, 7), X(0xFE), X(0xE4), X(0x20, 1, a=0xFF),
+         S(0xEE, 1), X(0xE4), X(0xEE, 1), X(0xEE, 1), X(0x30), S(0xFE)),
+    case("sum_test_kept", "every reset keeps the test on and keeps it off (E5): E3H, E0H, registers 1 and 2",
+         S(0xE3), S(0xE4), S(0xE0, 0x32, 7), R(6, 0, 0xFF), R(6, 1, 0x33), R(6, 0, 0xFF, a=0x33), R(6, 2, 7, a=0x33), X(0x30, a=0x32), S(0xFE, a=0x32),
+         S(0xE4, a=0x32), S(0xEE, 0, a=0x32), X(0xE3, a=0x32), S(0xFE, a=0x32), R(6, 0, 0xFF, a=0x33), W(1, 0x31, 6, a=0x33), X(0xFE, a=0x32),
+         X(0xE4, a=0x32), X(0xE0, 0x31, 6, a=0x32), X(0xFE), R(6, 0, 0xFF), R(6, 2, 6), X(0xFE)),
 ]
 
 # Outputs ----------------------------------------------------------------------------------
@@ -563,6 +618,8 @@ NOTICES = [
          S(0x62, 1), S(0x10, 1, s=7), R(6, 0, 0xFF), R(6, 1, 5), samples(1), S(0xE4), S(0xE0, 0x32, 6), samples(0)),
     case("after_pulses", "in one sample the pulse ends and the notice is written; the outputs are not part of it",
          S(0x62, 1), S(0x10, 1), S(0x23, 1, 0x81), P(0, 499), samples(1), S(0x30)),
+    case("any_sum_notice", "SUM untested (E5): 10H with a wrong SUM turns it on and off; the notice has a right SUM",
+         S(0x62, 1), UNTESTED, X(0x10, 1, 0, 1, s=7), samples(1), X(0x11), samples(0), X(0x10, 0), samples(1)),
 ]
 
 # Temperature ------------------------------------------------------------------------------
@@ -857,17 +914,31 @@ TALLIES = [
     tallied("refused_sample", "a sample with a short buffer is none", [S(0x6A, 1, 3), S(0x62, 1), P(1, room=255)], [(1, 0, 0)]),
     tallied("other_frames", "other instructions and functions with the same bytes do nothing", COUNT3 + [S(0x20, 0x81), S(0x23, 1, 0x81), R(5, 1, 0), R(3, 101, 1), R(6, 301, 3), W(600, 0, 0, 0, 0),
             S(0x26, 1, 2, 1), C(1, 2, 3)], [(1, 3, 0), (2, 3, 0)]),
+    tallied("sum_test_no_number", "EEH's byte is no sampling number: with number 3 two samples flip nothing", COUNT3 + [S(0x62, 3)] + UNTESTED + [S(0xE4), S(0xEE, 1)]
+            + samples(0, 0), [(1, 3, 0), (2, 3, 0)]),
     tallied("lists_read", "6BH sets no mode and clears nothing", COUNT3 + [S(0x6B, 0), S(0x6B, 1, 2)] + samples(0, 3), [(1, 5, 0), (2, 5, 0)]),
+    tallied("any_sum_counts", "SUM untested (E5): 6AH, 62H, 61H and 60H with a wrong SUM count as with a right one", UNTESTED + [X(0x6A, 1, 3, 2, 3), X(0x62, 1)]
+            + samples(3, 0, 3) + [X(0x61, 1, 0, 0, 0, 2), X(0x60, 0x82), X(0x60, 0x80)], [(1, 3, 3), (2, 3, 3)]),
+    tallied("any_sum_clears", "and so does 61H 00", COUNT3 + UNTESTED + [D((1, 1)), X(0x61, 0)] + samples(0), [(1, 1, 0), (2, 1, 0)]),
+    tallied("any_sum_resets", "E3H with a wrong SUM is a reset: a run of 1, number 2, does not go on", COUNT3 + UNTESTED + [D((1, 1)), X(0x62, 2)] + samples(0)
+            + [X(0xE3)] + samples(0, 3, 0, 0), [(1, 1, 0), (2, 1, 0)]),
+    tallied("any_sum_readdressed", "and so is E0H, permitted by an E4H with a wrong SUM", COUNT3 + UNTESTED + [D((1, 1)), X(0xE4), X(0xE0, 0x31, 6)] + samples(0),
+            [(1, 1, 0), (2, 1, 0)]),
+    tallied("wrong_sum", "SUM tested: the same frames are refused by 4 and change nothing", COUNT3 + [D((1, 1)), X(0x6A, 1, 0, 2, 0), X(0x62, 2), X(0x61, 1, 0, 0, 0, 1),
+            X(0x60, 0x82), X(0x61, 0), X(0xE3), S(0xE4), X(0xE0, 0x31, 6)] + samples(0), [(1, 4, 1), (2, 4, 0)]),
+    tallied("sum_test_turned", "EEH and FEH change nothing: a run of 1, number 2, goes on", COUNT3 + [D((1, 1)), S(0x62, 2)] + samples(0) + UNTESTED
+            + [S(0xFE), S(0xEE, 1), S(0xE4), S(0xEE, 1), S(0xFE)] + samples(0), [(1, 4, 1), (2, 4, 0)]),
 ]
 
 # What claims are said with: the parts that a call may change, and the calls that reset -----------------------
 
 # every part of the state, each shown by a number of its own
-PARTS = """stable run modes counters sampling outputs presets thermostats reading last format mask signature spinel_address spinel_speed
+PARTS = """stable run modes counters sampling outputs presets thermostats reading last format mask signature sum_tested spinel_address spinel_speed
 spinel_permission modbus_address modbus_speed modbus_permission""".split()
 ZEROED = "run counters outputs spinel_permission modbus_permission"
 BY_SPINEL = {0x10: "format mask signature", 0x1A: "thermostats", 0x20: "outputs", 0x23: "outputs", 0x25: "outputs", 0x26: "presets",
-             0x60: "counters", 0x61: "counters", 0x62: "sampling", 0x6A: "modes", 0xE0: ZEROED + " spinel_address spinel_speed", 0xE3: ZEROED}
+             0x60: "counters", 0x61: "counters", 0x62: "sampling", 0x6A: "modes", 0xE0: ZEROED + " spinel_address spinel_speed", 0xE3: ZEROED,
+             0xEE: "sum_tested"}
 BY_REGISTER = {**dict.fromkeys((1, 2), ZEROED + " modbus_address modbus_speed"), **dict.fromkeys((100, 115, 200, 215), "counters"),
                **dict.fromkeys((300, 315), "modes"), **dict.fromkeys((500, 515), "outputs"), **dict.fromkeys((600, 663), "thermostats")}
 BESIDE = [0, 3, 99, 116, 199, 216, 299, 316, 499, 516, 599, 664]
@@ -897,7 +968,7 @@ def by_modbus(name, call, changed=""):
 LEFT = [
     leaving("sample", P(0), "stable run counters outputs"), leaving("temperature", T(0), "reading last outputs"),
     *[by_spinel(code) for code in (0x0F, 0x10, 0x11, 0x1A, 0x1B, 0x20, 0x22, 0x23, 0x24, 0x25, 0x26, 0x30, 0x51, 0x60, 0x61, 0x62, 0x63, 0x6A,
-                                   0x6B, 0xDF, 0xE0, 0xE1, 0xE3, 0xE4, 0xF0)],
+                                   0x6B, 0xDF, 0xE0, 0xE1, 0xE3, 0xE4, 0xED, 0xEE, 0xEF, 0xF0, 0xFD, 0xFE, 0xFF)],
     *[by_modbus("register%d" % r, R(6, r, 0), BY_REGISTER.get(r, "")) for r in sorted([*BY_REGISTER, *BESIDE])],
     *[by_modbus("several%d" % r, W(r, 0), BY_REGISTER[r]) for r in (1, 100, 600)],
     by_modbus("coil", R(5, 0, 0), "outputs"), by_modbus("coils", C(0, 1, 0), "outputs"),
@@ -906,7 +977,7 @@ LEFT = [
 
 # accepted, each of these resets or does not
 RESETS = [
-    *[(named("by", code), S(code), code in (0xE0, 0xE3)) for code in (0xDF, 0xE0, 0xE1, 0xE2, 0xE3, 0xE4)],
+    *[(named("by", code), S(code), code in (0xE0, 0xE3)) for code in (0xDF, 0xE0, 0xE1, 0xE2, 0xE3, 0xE4, 0xEE, 0xFE)],
     *[("by_register_%d" % r, R(6, r, 0), r in (1, 2)) for r in (0, 1, 2, 3)], *[("by_several_%d" % r, W(r, 0), r in (1, 2)) for r in (0, 1, 2, 3)],
     ("by_read", R(3, 1, 1), False), ("by_coil", R(5, 1, 0), False), ("by07", M(7, 0, 1, 0, 0), False), ("by_coils", C(1, 1, 0), False),
     ("by11", M(0x11, 0, 1, 0, 0), False), ("by_sample", P(0), False), ("by_temperature", T(0), False),

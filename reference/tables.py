@@ -18,8 +18,8 @@ import rows
 
 ROOT = os.path.dirname(os.path.dirname(os.path.abspath(__file__)))
 PROOFS = os.path.join(ROOT, "crates/model/proofs/")
-SPECS = """State Times Samples Frames Refusals Wire Counters Temperature Outputs Notice Registers Spinel Modbus Call Calls Demand1 Tally Cycles
-Parts""".split()
+SPECS = """State Times Samples Frames Refusals Wire Counters SumTest Temperature Outputs Notice Registers Spinel Modbus Call Calls Demand1 Tally
+Cycles Parts""".split()
 LISTS = "Tests Mapi Walk Numbers Chunks Entries".split()
 SHUT = {"done", "walk", "all_pass", "some_below", "entries_of", "entry_added"}
 WIDTH = 150
@@ -173,7 +173,7 @@ PLACES = {
     "[]": "mathlib.Core.List", "◌∷◌": "mathlib.Core.List", "◌++◌": "mathlib.Core.List", "List": "mathlib.Core.List", "map": "mathlib.Core.List",
     "flat_map": "mathlib.Core.List", "replicate": "lib.ListN", "pos": "lib.IntN", "negsuc": "lib.IntN",
     **{n: "Rattle.model.specs.State" for n in """fresh_module with_inputs with_sampling with_modes with_counters with_outputs with_presets
-       with_thermostats with_reading with_notice with_spinel with_modbus line output preset thermostat notice port fresh_line fresh_output
+       with_thermostats with_reading with_notice with_sum_tested with_spinel with_modbus line output preset thermostat notice port fresh_line fresh_output
        fresh_preset fresh_thermostat""".split()},
     "Valid": "Rattle.model.specs.declared.Reading.TheVariants", "of_bits": "lib.Ieee", "binary32": "lib.Ieee",
     "Call": "Rattle.model.specs.Call", "Tally": "Rattle.model.specs.Tally", "final_tally": "Rattle.model.specs.Cycles",
@@ -257,7 +257,7 @@ Tallies calls rows = map (λ (r : Row). held (final_tally calls) r.input) rows �
 """
 
 
-CLAIM_BEFORE = """-- a state of which every part shows a number of its own, 1 to 19
+CLAIM_BEFORE = """-- a state of which every part shows a number of its own, 1 to 20
 abbrev marked : Module
 marked = record {
   inputs = record { lines = line true 2 ∷ []; counters = 4 ∷ [] };
@@ -268,11 +268,12 @@ marked = record {
     presets = preset 7 7 ∷ [];
     thermostats = thermostat 8 (pos 8) (pos 8) 8 8 ∷ [];
     notice = notice 11 12 13;
+    sum_tested = true;
   };
   reading = Valid (pos 9) (of_bits binary32 9);
   last = Valid (pos 10) (of_bits binary32 10);
-  spinel = port 14 15 true;
-  modbus = port 17 18 true;
+  spinel = port 15 16 true;
+  modbus = port 18 19 true;
 }
 
 -- the parts in that order; 0 for one that is not there
@@ -291,12 +292,13 @@ parts m =
     ∷ m.settings.notice.format
     ∷ m.settings.notice.mask
     ∷ m.settings.notice.signature
+    ∷ cond m.settings.sum_tested 14 0
     ∷ m.spinel.address
     ∷ m.spinel.speed
-    ∷ cond m.spinel.permitted 16 0
+    ∷ cond m.spinel.permitted 17 0
     ∷ m.modbus.address
     ∷ m.modbus.speed
-    ∷ cond m.modbus.permitted 19 0
+    ∷ cond m.modbus.permitted 20 0
     ∷ []
 
 -- what a call leaves of it

@@ -16,8 +16,8 @@ ROOT = os.path.dirname(os.path.dirname(os.path.abspath(__file__)))
 FOLDERS = {"lists": "crates/lists/specs", "model": "crates/model/specs", "proofs": "crates/model/proofs"}
 FILES = {
     "lists": "Tests Mapi Walk Numbers Chunks Entries Data".split(),
-    "model": """State Times Samples Frames Refusals Wire Counters Temperature Outputs Notice Registers Spinel Modbus Call Calls Demand1
-             Tally Cycles Parts""".split(),
+    "model": """State Times Samples Frames Refusals Wire Counters SumTest Temperature Outputs Notice Registers Spinel Modbus Call Calls
+             Demand1 Tally Cycles Parts""".split(),
     "proofs": "Exchanges Wraps Readings Puts GroupTable ClaimTable".split(),
 }
 # definitions by `Bounded.added`, which serve the code alone

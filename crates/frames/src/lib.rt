@@ -1,7 +1,7 @@
 // Checks 2 to 6 of both ports' frames (01, the refusals), and where their data stand.
 #![tactic(auto)]
 
-ghost use Rattle.std.specs.Prelude.{◌≡◌, ◌≤◌, ◌+◌, ◌-◌, cond, length, take, drop, IfOk};
+ghost use Rattle.std.specs.Prelude.{◌≡◌, ◌≤◌, ◌+◌, ◌-◌, true, cond, ◌&&◌, length, take, drop, IfOk};
 ghost use Rattle.model.specs.Frames.{spinel_data, modbus_body};
 ghost use Rattle.model.specs.Numbers.{refused_by};
 ghost use Rattle.model.specs.Refusals.{frame_length_wrong, shape_wrong, sum_wrong, crc_wrong, spinel_address_wrong, modbus_address_wrong, spinel_broadcast_wrong, modbus_broadcast_wrong};
@@ -36,15 +36,15 @@ fn shape_refusal(frame: &[u8]) -> Result<(), Refusal>
     encoding::refused_if(wrong, Refusal::Shape)
 }
 
-// 4. The last byte but one isn't the SUM of all before it.
+// 4. SUM is tested (E5), and the last byte but one isn't that of all before it.
 #[tactic(auto, unfolding(model::specs::Refusals::sum_wrong))]
-fn sum_refusal(frame: &[u8]) -> Result<(), Refusal>
+fn sum_refusal(tested: bool, frame: &[u8]) -> Result<(), Refusal>
     requires { 9 ≤ length frame.now }
-    ensures { refused_by result ≡ cond (sum_wrong frame.now) 4 0 }
+    ensures { refused_by result ≡ cond (tested && sum_wrong frame.now) 4 0 }
 {
     let end = frame.len() - 2;
     let sum = checksum::spinel_sum(&frame[..end]);
-    encoding::refused_if(frame[end] != sum, Refusal::Checksum)
+    encoding::refused_if(tested && frame[end] != sum, Refusal::Checksum)
 }
 
 // 4. The last two bytes aren't the CRC of all before them, low byte first.
@@ -97,14 +97,14 @@ fn modbus_broadcast_refusal(to: u8, function: u8) -> Result<(), Refusal>
     )
 }
 
-// Refusals 2 to 6 of a Spinel frame in checking order.
+// Refusals 2 to 6 of a Spinel frame in checking order, 4 only where SUM is tested.
 #[tactic(auto, unfolding(model::specs::Wire::frame_refusal))]
-pub fn spinel_refusal(own: u8, frame: &[u8]) -> Result<(), Refusal>
-    ensures { refused_by result ≡ frame_refusal spinel_wire own frame.now }
+pub fn spinel_refusal(tested: bool, own: u8, frame: &[u8]) -> Result<(), Refusal>
+    ensures { refused_by result ≡ frame_refusal spinel_wire tested own frame.now }
 {
     length_refusal(9, frame)?;
     shape_refusal(frame)?;
-    sum_refusal(frame)?;
+    sum_refusal(tested, frame)?;
     spinel_address_refusal(own, frame[4])?;
     spinel_broadcast_refusal(frame[4], frame[6])
 }
@@ -112,7 +112,7 @@ pub fn spinel_refusal(own: u8, frame: &[u8]) -> Result<(), Refusal>
 // Refusals 2 to 6 of a Modbus frame in checking order; 3 is Spinel's alone.
 #[tactic(auto, unfolding(model::specs::Wire::frame_refusal))]
 pub fn modbus_refusal(own: u8, frame: &[u8]) -> Result<(), Refusal>
-    ensures { refused_by result ≡ frame_refusal modbus_wire own frame.now }
+    ensures { refused_by result ≡ frame_refusal modbus_wire true own frame.now }
 {
     length_refusal(4, frame)?;
     crc_refusal(frame)?;

@@ -11,7 +11,7 @@ use Rattle.lists.specs.Numbers.{bits_number}
 use lib.Pow.{pow_pos}
 use Rattle.lists.specs.Chunks.{chunks_of}
 
-byte_bit : (b : Bool) → bool_byte b ≡ cond b 1 0
+pub byte_bit : (b : Bool) → bool_byte b ≡ cond b 1 0
 byte_bit true = refl
 byte_bit false = refl
 

@@ -178,8 +178,8 @@ impl Wire for ModbusWire {
         outcomes::with_modbus(m, port)
     }
 
-    fn refusal(own: u8, frame: &[u8]) -> Result<(), Refusal> {
-        frames::modbus_refusal(own, frame)
+    fn refusal(m: &Module, frame: &[u8]) -> Result<(), Refusal> {
+        frames::modbus_refusal(m.modbus.address, frame)
     }
 
     fn serve(m: Module, permitted: bool, frame: &[u8]) -> Result<Served, Refusal> {

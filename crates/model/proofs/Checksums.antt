@@ -26,6 +26,7 @@ unchecked_wire = record {
   least = modbus_wire.least;
   shape_wrong = modbus_wire.shape_wrong;
   check_wrong = λ f. false;
+  check_tested = modbus_wire.check_tested;
   addressee = modbus_wire.addressee;
   address_wrong = modbus_wire.address_wrong;
   broadcast_wrong = modbus_wire.broadcast_wrong;

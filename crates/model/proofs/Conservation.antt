@@ -15,7 +15,7 @@ use Rattle.model.specs.declared.Module.{Module}
 use Rattle.model.specs.State.{fresh_module}
 use Rattle.model.specs.Samples.{counter_bits, inputs_sampled}
 use Rattle.model.specs.Frames.{spinel_to, signature_of, instruction_of, spinel_data, spinel_broadcast, spinel_reply, sum_of}
-use Rattle.model.specs.Refusals.{Done, Out, ack_of, silent, frame_length_wrong, spinel_broadcast_wrong, buffer_short}
+use Rattle.model.specs.Refusals.{Done, Out, ack_of, silent, spinel_broadcast_wrong, buffer_short}
 use Rattle.model.specs.Wire.{Wire, frame_refusal, used_up, request_of, frame_answered, frame_call}
 use Rattle.model.specs.Spinel.{spinel_request, spinel_wire}
 use Rattle.model.specs.Modbus.{modbus_wire}
@@ -37,13 +37,13 @@ record Kept (i : ℕ) (t : Tally) (a : Act) (o : Out) : Type 0 where
   keeps : Inv i (counting_of o.after) (if_accepted o.refusal t (tallied a o.reply t))
 
 -- a frame that passes 2 to 6 is no forbidden broadcast
-no_broadcast : (w : Wire) (own : ℕ) (f : List ℕ) → frame_refusal w own f ≡ 0 → w.broadcast_wrong f ≡ false
+no_broadcast : (w : Wire) (tested : Bool) (own : ℕ) (f : List ℕ) → frame_refusal w tested own f ≡ 0 → w.broadcast_wrong f ≡ false
 unfolding frame_refusal
-no_broadcast w own f h =
-    let a = passed (frame_length_wrong w.least f) 1 _ h in
-    let b = passed (w.shape_wrong f) 2 _ a.1 in
-    let c = passed (w.check_wrong f) 3 _ b.1 in
-    let d = passed (w.address_wrong own (w.addressee f)) 4 _ c.1 in
+no_broadcast w tested own f h =
+    let a = passed _ 1 _ h in
+    let b = passed _ 2 _ a.1 in
+    let c = passed _ 3 _ b.1 in
+    let d = passed _ 4 _ c.1 in
     (passed (w.broadcast_wrong f) 5 0 d.1).0
 
 -- so a 60H that passes came to one address
@@ -61,7 +61,7 @@ module _ (i : ℕ) (small : i < 16) (m : Module) (t : Tally) (v : Inv i (countin
   frame_keeps : (w : Wire) (f : List ℕ) (a : Act) (after : ℕ → List ℕ → Tally)
       → ((o : Done Module) → tallied a (frame_answered w (w.port m).address f o).reply t ≡ after o.refusal o.reply)
       → Inv i (counting_of (used_up w m)) t
-      → (frame_refusal w (w.port m).address f ≡ 0 → Good i (after 0) (request_of w f m))
+      → (frame_refusal w (w.check_tested m) (w.port m).address f ≡ 0 → Good i (after 0) (request_of w f m))
       → (room : ℕ) → Kept i t a (frame_call w room f m)
   unfolding frame_answered
   frame_keeps w f a after e u good =
@@ -87,7 +87,7 @@ module _ (i : ℕ) (small : i < 16) (m : Module) (t : Tally) (v : Inv i (countin
     spinel_keeps =
         frame_keeps spinel_wire f (spinel f) (λ n d. spinel_tallied (instruction_of f) (spinel_data f) (replied n d) t) (λ _. refl) v λ h.
         spinel_good i small (used_up spinel_wire m) t v (spinel_data f) (replied 0) (spinel_request m.spinel.permitted f) (instruction_of f) closing refl refl
-        (λ e. tail_of (to_one (spinel_to f) (instruction_of f) (no_broadcast spinel_wire m.spinel.address f h) e))
+        (λ e. tail_of (to_one (spinel_to f) (instruction_of f) (no_broadcast spinel_wire m.settings.sum_tested m.spinel.address f h) e))
 
     modbus_keeps : (room : ℕ) → Kept i t (modbus f) (modbus_call room f m)
     unfolding tallied

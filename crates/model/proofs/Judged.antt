@@ -85,10 +85,10 @@ passes_either R (suc k) m o denied acted = denied k
 -- a call with a frame on either wire: refused without a reply, refused by 7 to 13, or accepted
 pub frame_either : (R : Out → Type 0) (w : Wire) (f : List ℕ) (m : Module) → ((n : ℕ) → R (silent (suc n) m))
     → ((n : ℕ) → 7 ≤ n → R (frame_answered w (w.port m).address f (refused n (used_up w m))))
-    → (frame_refusal w (w.port m).address f ≡ 0 → Passes (request_of w f m) → R (frame_answered w (w.port m).address f (granted (request_of w f m))))
+    → (frame_refusal w (w.check_tested m) (w.port m).address f ≡ 0 → Passes (request_of w f m) → R (frame_answered w (w.port m).address f (granted (request_of w f m))))
     → (room : ℕ) → R (frame_call w room f m)
 unfolding frame_call frame_handled frame_acted
 frame_either R w f m early denied accepted room =
     cond_case R (buffer_short room) _ _ (λ _. early 0) λ _.
-    passes_either R (frame_refusal w (w.port m).address f) m (frame_acted w f m) early λ h.
+    passes_either R (frame_refusal w (w.check_tested m) (w.port m).address f) m (frame_acted w f m) early λ h.
     judged_either (λ o. R (frame_answered w (w.port m).address f o)) (used_up w m) (request_of w f m) denied (accepted h)

@@ -4,8 +4,8 @@ use mathlib.Core.List.{[], ◌∷◌, ◌++◌}
 use Rattle.model.specs.State.{fresh_module}
 use Rattle.model.proofs.Computing.{unchecked}
 use Rattle.model.proofs.Checksums.{eqb_same, passed}
-use Rattle.model.proofs.Exchanges.{Plays, ◌⇒◌, sample_of, asked, asked_by, requested, silently, answers, answers_to, refuses, refuses_to, announces}
-use Rattle.model.proofs.Exchanges.{echoes, quiet}
+use Rattle.model.proofs.Exchanges.{Plays, ◌⇒◌, sample_of, spinel_frame, asked, asked_by, requested, reply, silently, answers, answers_to, refuses}
+use Rattle.model.proofs.Exchanges.{refuses_to, announces, echoes, quiet}
 
 pub record NoticeTable : Type 0 where
   -- 10H 01: all inputs without a mask; 11H shows 61H and the mask; on again: 11, mask and signature stay; 00 turns off
@@ -100,6 +100,21 @@ pub record NoticeTable : Type 0 where
       (sample_of 1 ⇒ announces 0x31 0x02 (0x00 ∷ 0x01 ∷ [])) ∷
       (asked 0x30 [] ⇒ answers (0x00 ∷ 0x00 ∷ [])) ∷
       [])
+  -- SUM untested (E5): 10H with a wrong SUM turns it on and off; the notice has a right SUM
+  pub any_sum_notice : Plays fresh_module (
+      (asked 0x62 (0x01 ∷ []) ⇒ answers []) ∷
+      (asked 0xE4 [] ⇒ answers []) ∷
+      (asked 0xEE (0x00 ∷ []) ⇒ answers []) ∷
+      (spinel_frame (0x2A ∷ 0x61 ∷ 0x00 ∷ 0x08 ∷ 0x31 ∷ 0x07 ∷ 0x10 ∷ 0x01 ∷ 0x00 ∷ 0x01 ∷ 0x23 ∷ 0x0D ∷ [])
+      ⇒ reply 0 (0x2A ∷ 0x61 ∷ 0x00 ∷ 0x05 ∷ 0x31 ∷ 0x07 ∷ 0x00 ∷ 0x37 ∷ 0x0D ∷ [])) ∷
+      (sample_of 1 ⇒ announces 0x31 0x07 (0x00 ∷ 0x01 ∷ [])) ∷
+      (spinel_frame (0x2A ∷ 0x61 ∷ 0x00 ∷ 0x05 ∷ 0x31 ∷ 0x02 ∷ 0x11 ∷ 0x2C ∷ 0x0D ∷ [])
+      ⇒ reply 0 (0x2A ∷ 0x61 ∷ 0x00 ∷ 0x08 ∷ 0x31 ∷ 0x02 ∷ 0x00 ∷ 0x61 ∷ 0x00 ∷ 0x01 ∷ 0xD7 ∷ 0x0D ∷ [])) ∷
+      (sample_of 0 ⇒ announces 0x31 0x07 (0x00 ∷ 0x00 ∷ [])) ∷
+      (spinel_frame (0x2A ∷ 0x61 ∷ 0x00 ∷ 0x06 ∷ 0x31 ∷ 0x02 ∷ 0x10 ∷ 0x00 ∷ 0x2C ∷ 0x0D ∷ [])
+      ⇒ reply 0 (0x2A ∷ 0x61 ∷ 0x00 ∷ 0x05 ∷ 0x31 ∷ 0x02 ∷ 0x00 ∷ 0x3C ∷ 0x0D ∷ [])) ∷
+      (sample_of 1 ⇒ silently 0) ∷
+      [])
 
 pub notice_table : NoticeTable
 unfolding unchecked
@@ -111,4 +126,5 @@ notice_table = record {
   not_turned = passed _ _ _ refl refl;
   own_address = passed _ _ _ (simp eqb_same) refl;
   after_pulses = passed _ _ _ refl refl;
+  any_sum_notice = passed _ _ _ refl refl;
 }

@@ -20,6 +20,7 @@ use Rattle.model.specs.Outputs.{read_states}
 use Rattle.model.specs.Notice.{read_notice}
 use Rattle.model.specs.Temperature.{reading_of, taken, read_temperature, read_thermostats}
 use Rattle.model.specs.Registers.{read_words, read_bits, write_permission, write_port}
+use Rattle.model.specs.SumTest.{read_sum_test}
 use Rattle.model.specs.Spinel.{SpinelRequest, spinel_asked, spinel_request, spinel_wire}
 use Rattle.model.specs.Modbus.{start_of, registers_written, coil_written, register_written, coils_written, several_written, modbus_asked, modbus_wire}
 use Rattle.model.specs.Call.{Act, sample, temperature, spinel, modbus}
@@ -38,7 +39,7 @@ module _ (m : Module) where
     kept : spinel_leaves i (without_spinel_permission r.after) ≡ spinel_leaves i (without_spinel_permission m)
 
   spinel_leaves_lem : (q : SpinelRequest) (i : ℕ) → q.instruction ≡ i → LeftAlone i (spinel_asked q (used_up spinel_wire m))
-  unfolding spinel_asked spinel_leaves read_notice read_thermostats read_states list_read read_temperature read_sampling read_port set_port reset_module reset runs_ended set_sampling give_permission
+  unfolding spinel_asked spinel_leaves read_notice read_thermostats read_states list_read read_temperature read_sampling read_port read_sum_test set_port reset_module reset runs_ended set_sampling give_permission
   spinel_leaves_lem q i e =
       rw e
       (cond_eq P i 0x10 _ _ (λ e. record { kept = rw e refl })
@@ -64,8 +65,10 @@ module _ (m : Module) where
       (cond_eq P i 0xE0 _ _ (λ e. record { kept = rw (e, ended_twice m.inputs.lines) refl })
       (cond_eq P i 0xE3 _ _ (λ e. record { kept = rw (e, ended_twice m.inputs.lines) refl })
       (cond_eq P i 0xE4 _ _ (λ e. record { kept = rw e refl })
+      (cond_eq P i 0xEE _ _ (λ e. record { kept = rw e refl })
       (cond_eq P i 0xF0 _ _ (λ e. record { kept = rw e refl })
-      (record { kept = refl })))))))))))))))))))))))))
+      (cond_eq P i 0xFE _ _ (λ e. record { kept = rw e refl })
+      (record { kept = refl })))))))))))))))))))))))))))
     where
       P : Request Module → Type 0
       P = LeftAlone i

@@ -18,6 +18,7 @@ use Rattle.model.specs.Outputs.{read_states}
 use Rattle.model.specs.Notice.{read_notice}
 use Rattle.model.specs.Temperature.{read_temperature, read_thermostats}
 use Rattle.model.specs.Registers.{permission_group, outside, read_words, read_bits, write_permission, write_port}
+use Rattle.model.specs.SumTest.{read_sum_test}
 use Rattle.model.specs.Spinel.{SpinelRequest, spinel_asked, spinel_request, spinel_wire}
 use Rattle.model.specs.Modbus.{start_of, registers_written, coil_written, register_written, coils_written, several_written, modbus_asked, modbus_wire}
 use Rattle.model.specs.Call.{Act, sample, temperature, spinel, modbus}
@@ -53,7 +54,7 @@ module _ (m : Module) where
   plainly i q e a b c = record { fair = λ _. record { used = rw (e, a); ended = rw (b, c) (λ h. absurd (true≢false (sym h))) } }
 
   spinel_fair : (q : SpinelRequest) (i : ℕ) → q.instruction ≡ i → FairBySpinel i (spinel_asked q (used_up spinel_wire m))
-  unfolding spinel_asked read_notice read_thermostats read_states list_read read_temperature read_sampling read_port set_port reset_module reset give_permission
+  unfolding spinel_asked read_notice read_thermostats read_states list_read read_temperature read_sampling read_port read_sum_test set_port reset_module reset give_permission
   spinel_fair q i e =
       rw e
       (cond_eq (FairBySpinel i) i 0x10 _ _ (λ e. rw e (plainly 0x10 _ refl refl refl refl))
@@ -79,8 +80,10 @@ module _ (m : Module) where
       (cond_eq (FairBySpinel i) i 0xE0 _ _ (λ e. rw e (record { fair = λ _. record { used = refl; ended = λ _. (refl, refl) } }))
       (cond_eq (FairBySpinel i) i 0xE3 _ _ (λ e. rw e (record { fair = λ _. record { used = refl; ended = λ _. (refl, refl) } }))
       (cond_eq (FairBySpinel i) i 0xE4 _ _ (λ e. rw e (record { fair = λ _. record { used = refl; ended = λ h. absurd (true≢false (sym h)) } }))
+      (cond_eq (FairBySpinel i) i 0xEE _ _ (λ e. rw e (plainly 0xEE _ refl refl refl refl))
       (cond_eq (FairBySpinel i) i 0xF0 _ _ (λ e. rw e (plainly 0xF0 _ refl refl refl refl))
-      (record { fair = λ h. absurd (true≢false h) })))))))))))))))))))))))))
+      (cond_eq (FairBySpinel i) i 0xFE _ _ (λ e. rw e (plainly 0xFE _ refl refl refl refl))
+      (record { fair = λ h. absurd (true≢false h) })))))))))))))))))))))))))))
 
   -- registers written from r on, by 06 or not
   record FairWrite (single : Bool) (r : ℕ) (q : Request Module) : Type 0 where

@@ -125,7 +125,7 @@ pub record Rows : Type 0 where
   pub ten_first : refusal_of (refuse 13 true (refuse 10 true (telling []))) ≡ 10
   pub then_thirteen : refusal_of (refuse 11 true (refuse 13 true (telling []))) ≡ 13
   pub request_order : map (λ (c : Check). c.number) (request_checks (telling [])) ≡ (7 ∷ 8 ∷ 9 ∷ 10 ∷ 13 ∷ 11 ∷ 12 ∷ [])
-  pub frame_order : map (λ (c : Check). c.number) (frame_checks spinel_wire 0x31 []) ≡ (2 ∷ 3 ∷ 4 ∷ 5 ∷ 6 ∷ [])
+  pub frame_order : map (λ (c : Check). c.number) (frame_checks spinel_wire true 0x31 []) ≡ (2 ∷ 3 ∷ 4 ∷ 5 ∷ 6 ∷ [])
   -- the tally adds what all deductions of an input name, and does not rest on 13; an amount has four bytes, the high one first
   pub amounts_add : amounts 1 (1 ∷ 0 ∷ 0 ∷ 0 ∷ 2 ∷ 2 ∷ 0 ∷ 0 ∷ 0 ∷ 9 ∷ 1 ∷ 0 ∷ 0 ∷ 1 ∷ 3 ∷ []) ≡ 261
   pub amounts_whole : amounts 2 (2 ∷ 0x12 ∷ 0x34 ∷ 0x56 ∷ 0x78 ∷ []) ≡ 0x1234_5678

@@ -169,12 +169,12 @@ module _ (w : Wire) (f : List ℕ) (m : Module) (refusing : ℕ → List ℕ) (r
       }
 
   -- behind the frame's own conditions
-  handled_answers : Answers m (used_up w m) to_all told (frame_checks w (w.port m).address f ++ request_checks (request_of w f m)) (frame_handled w f m)
+  handled_answers : Answers m (used_up w m) to_all told (frame_checks w (w.check_tested m) (w.port m).address f ++ request_checks (request_of w f m)) (frame_handled w f m)
   unfolding frame_handled frame_refusal frame_checks first_of
-  handled_answers = framed m (used_up w m) to_all told (frame_checks w (w.port m).address f) _ (frame_acted w f m) (omega arith) acted_answers
+  handled_answers = framed m (used_up w m) to_all told (frame_checks w (w.check_tested m) (w.port m).address f) _ (frame_acted w f m) (omega arith) acted_answers
 
   -- behind the buffer's
-  frame_answers : (room : ℕ) → Answers m (used_up w m) to_all told (wire_checks w m room f) (frame_call w room f m)
+  frame_answers : (room : ℕ) → Answers m (used_up w m) to_all told (wire_checks w (w.check_tested m) m room f) (frame_call w room f m)
   unfolding frame_call
   frame_answers room = call_check m (used_up w m) to_all told 1 (buffer_short room) (omega arith) handled_answers
 

@@ -24,6 +24,7 @@ use Rattle.model.specs.Frames.{spinel_reply, with_crc, modbus_reply, exception_f
 use Rattle.model.specs.Refusals.{Request, refuse, reading, Done, judged, ack_of, exception_of}
 use Rattle.model.specs.Counters.{most_items, items_of, every_number, listed, list_read, zeroes, number_in, parameters, read_one, values_read, read_counters, clear_all, deduct, deduct_counters, set_sampling, read_sampling, set_modes_list, set_modes, mode_shown, set_port, reset_module, give_permission, read_port}
 use Rattle.model.specs.Temperature.{set_thermostats, reading_shown, read_temperature, group_shown, read_thermostats}
+use Rattle.model.specs.SumTest.{set_sum_test, read_sum_test}
 use Rattle.model.specs.Outputs.{set_outputs, set_pulses, pulse_outputs, act_on, start_presets, set_presets, states_shown, read_states, pulse_shown, preset_shown, mode_byte}
 use Rattle.model.specs.Registers.{port_group, counter_group, mode_group, output_group, thermostat_group, reading_group, in_group, packed, read_bits, read_words, read_thermostat, port_words, counter_word, output_word, thermostat_words, write_coils}
 use Rattle.model.specs.Modbus.{start_of, second_of, quantity_wrong, no_group, registers_read, registers_written, coil_written, register_written, coils_written, several_written, modbus_asked}
@@ -102,7 +103,7 @@ thermostats_short d hs =
 -- Spinel ---------------------------------------------------------------------------------
 
 pub asked_short : (q : SpinelRequest) (m : Module) → Short 128 (spinel_asked q m)
-unfolding spinel_asked set_notice read_notice set_thermostats set_outputs set_pulses pulse_outputs act_on start_presets set_presets read_states set_sampling read_sampling set_modes_list set_modes set_port reset_module give_permission read_port pulse_shown preset_shown mode_byte mode_shown bytes
+unfolding spinel_asked set_notice read_notice set_thermostats set_outputs set_pulses pulse_outputs act_on start_presets set_presets read_states set_sampling read_sampling set_modes_list set_modes set_port reset_module give_permission read_port set_sum_test read_sum_test pulse_shown preset_shown mode_byte mode_shown bytes
 asked_short q m =
     cond_eq S i 0x10 _ _ (λ _. omega arith)
     (cond_eq S i 0x11 _ _ (λ _. omega arith)
@@ -127,8 +128,10 @@ asked_short q m =
     (cond_eq S i 0xE0 _ _ (λ _. omega arith)
     (cond_eq S i 0xE3 _ _ (λ _. omega arith)
     (cond_eq S i 0xE4 _ _ (λ _. omega arith)
+    (cond_eq S i 0xEE _ _ (λ _. omega arith)
     (cond_eq S i 0xF0 _ _ (λ _. omega arith)
-    (omega arith))))))))))))))))))))))))
+    (cond_eq S i 0xFE _ _ (λ _. omega arith)
+    (omega arith))))))))))))))))))))))))))
   where
     S : Request Module → Type 0
     S = Short 128

@@ -17,6 +17,7 @@ use Rattle.model.specs.Counters.{list_read, read_counters, parameters, values_re
 use Rattle.model.specs.Outputs.{read_states}
 use Rattle.model.specs.Notice.{read_notice}
 use Rattle.model.specs.Temperature.{read_temperature, read_thermostats}
+use Rattle.model.specs.SumTest.{read_sum_test}
 use Rattle.model.specs.Spinel.{SpinelRequest, spinel_asked}
 use Rattle.model.specs.Tally.{Tally, Account, with_mode, changed, spinel_collects, spinel_clears, spinel_resets, spinel_mode, spinel_sampling, spinel_tallied}
 use Rattle.model.proofs.Bridge.{amounts_agree, modes_given, taken_agrees, kept}
@@ -101,7 +102,7 @@ module _ (i : ℕ) (small : i < 16) (m : Module) (t : Tally) (v : Inv i (countin
   pub spinel_good : (q : SpinelRequest) (c : ℕ) (s : List ℕ → List ℕ) → q.content ≡ d → q.instruction ≡ c
       → (c ≡ 0x60 → (bs : List ℕ) → drop 8 (framed (counter_bits ∷ bs)) ≡ bs ++ s bs)
       → Good i (by c) (spinel_asked q m)
-  unfolding spinel_asked read_notice read_thermostats read_states list_read read_temperature read_sampling read_port
+  unfolding spinel_asked read_notice read_thermostats read_states list_read read_temperature read_sampling read_port read_sum_test
   spinel_good q c s ed ec tail =
       rw (ed, ec)
       (cond_eq P c 0x10 _ _ (λ e. rw e (still 0x10 _ refl refl refl refl refl refl refl))
@@ -127,8 +128,10 @@ module _ (i : ℕ) (small : i < 16) (m : Module) (t : Tally) (v : Inv i (countin
       (cond_eq P c 0xE0 _ _ (λ e. rw e (address_good q.permitted q.to_universal))
       (cond_eq P c 0xE3 _ _ (λ e. rw e reset_good)
       (cond_eq P c 0xE4 _ _ (λ e. rw e (still 0xE4 _ refl refl refl refl refl refl refl))
+      (cond_eq P c 0xEE _ _ (λ e. rw e (still 0xEE _ refl refl refl refl refl refl refl))
       (cond_eq P c 0xF0 _ _ (λ e. rw e (still 0xF0 _ refl refl refl refl refl refl refl))
-      (unlisted_good c)))))))))))))))))))))))))
+      (cond_eq P c 0xFE _ _ (λ e. rw e (still 0xFE _ refl refl refl refl refl refl refl))
+      (unlisted_good c)))))))))))))))))))))))))))
     where
       P : Request Module → Type 0
       P r = Good i (by c) r

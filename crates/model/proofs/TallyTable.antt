@@ -7,7 +7,7 @@ use Rattle.model.specs.Call.{Call}
 use Rattle.model.specs.Tally.{Tally}
 use Rattle.model.specs.Cycles.{final_tally}
 use Rattle.model.proofs.Computing.{computing}
-use Rattle.model.proofs.Exchanges.{sample_of, lending, asked, asked_at, requested, written, switched, samples_in_turn}
+use Rattle.model.proofs.Exchanges.{sample_of, spinel_frame, lending, asked, asked_at, requested, written, switched, samples_in_turn}
 
 -- an input's number, edges and collected
 pub record Row : Type 0 where
@@ -359,6 +359,22 @@ pub record TallyTable : Type 0 where
       switched 1 2 (0x03 ∷ []) ∷
       [])
       (account 1 3 0 ∷ account 2 3 0 ∷ [])
+  -- EEH's byte is no sampling number: with number 3 two samples flip nothing
+  pub sum_test_no_number : Tallies (
+      asked 0x6A (0x01 ∷ 0x03 ∷ 0x02 ∷ 0x03 ∷ []) ∷
+      asked 0x62 (0x01 ∷ []) ∷
+      sample_of 3 ∷
+      sample_of 0 ∷
+      sample_of 3 ∷
+      asked 0x62 (0x03 ∷ []) ∷
+      asked 0xE4 [] ∷
+      asked 0xEE (0x00 ∷ []) ∷
+      asked 0xE4 [] ∷
+      asked 0xEE (0x01 ∷ []) ∷
+      sample_of 0 ∷
+      sample_of 0 ∷
+      [])
+      (account 1 3 0 ∷ account 2 3 0 ∷ [])
   -- 6BH sets no mode and clears nothing
   pub lists_read : Tallies (
       asked 0x6A (0x01 ∷ 0x03 ∷ 0x02 ∷ 0x03 ∷ []) ∷
@@ -372,6 +388,109 @@ pub record TallyTable : Type 0 where
       sample_of 3 ∷
       [])
       (account 1 5 0 ∷ account 2 5 0 ∷ [])
+  -- SUM untested (E5): 6AH, 62H, 61H and 60H with a wrong SUM count as with a right one
+  pub any_sum_counts : Tallies (
+      asked 0xE4 [] ∷
+      asked 0xEE (0x00 ∷ []) ∷
+      spinel_frame (0x2A ∷ 0x61 ∷ 0x00 ∷ 0x09 ∷ 0x31 ∷ 0x02 ∷ 0x6A ∷ 0x01 ∷ 0x03 ∷ 0x02 ∷ 0x03 ∷ 0xC6 ∷ 0x0D ∷ []) ∷
+      spinel_frame (0x2A ∷ 0x61 ∷ 0x00 ∷ 0x06 ∷ 0x31 ∷ 0x02 ∷ 0x62 ∷ 0x01 ∷ 0xD9 ∷ 0x0D ∷ []) ∷
+      sample_of 3 ∷
+      sample_of 0 ∷
+      sample_of 3 ∷
+      spinel_frame (0x2A ∷ 0x61 ∷ 0x00 ∷ 0x0A ∷ 0x31 ∷ 0x02 ∷ 0x61 ∷ 0x01 ∷ 0x00 ∷ 0x00 ∷ 0x00 ∷ 0x02 ∷ 0xD4 ∷
+      0x0D ∷ []) ∷
+      spinel_frame (0x2A ∷ 0x61 ∷ 0x00 ∷ 0x06 ∷ 0x31 ∷ 0x02 ∷ 0x60 ∷ 0x82 ∷ 0x5A ∷ 0x0D ∷ []) ∷
+      spinel_frame (0x2A ∷ 0x61 ∷ 0x00 ∷ 0x06 ∷ 0x31 ∷ 0x02 ∷ 0x60 ∷ 0x80 ∷ 0x5C ∷ 0x0D ∷ []) ∷
+      [])
+      (account 1 3 3 ∷ account 2 3 3 ∷ [])
+  -- and so does 61H 00
+  pub any_sum_clears : Tallies (
+      asked 0x6A (0x01 ∷ 0x03 ∷ 0x02 ∷ 0x03 ∷ []) ∷
+      asked 0x62 (0x01 ∷ []) ∷
+      sample_of 3 ∷
+      sample_of 0 ∷
+      sample_of 3 ∷
+      asked 0xE4 [] ∷
+      asked 0xEE (0x00 ∷ []) ∷
+      asked 0x61 (0x01 ∷ 0x00 ∷ 0x00 ∷ 0x00 ∷ 0x01 ∷ []) ∷
+      spinel_frame (0x2A ∷ 0x61 ∷ 0x00 ∷ 0x06 ∷ 0x31 ∷ 0x02 ∷ 0x61 ∷ 0x00 ∷ 0xDB ∷ 0x0D ∷ []) ∷
+      sample_of 0 ∷
+      [])
+      (account 1 1 0 ∷ account 2 1 0 ∷ [])
+  -- E3H with a wrong SUM is a reset: a run of 1, number 2, does not go on
+  pub any_sum_resets : Tallies (
+      asked 0x6A (0x01 ∷ 0x03 ∷ 0x02 ∷ 0x03 ∷ []) ∷
+      asked 0x62 (0x01 ∷ []) ∷
+      sample_of 3 ∷
+      sample_of 0 ∷
+      sample_of 3 ∷
+      asked 0xE4 [] ∷
+      asked 0xEE (0x00 ∷ []) ∷
+      asked 0x61 (0x01 ∷ 0x00 ∷ 0x00 ∷ 0x00 ∷ 0x01 ∷ []) ∷
+      spinel_frame (0x2A ∷ 0x61 ∷ 0x00 ∷ 0x06 ∷ 0x31 ∷ 0x02 ∷ 0x62 ∷ 0x02 ∷ 0xD8 ∷ 0x0D ∷ []) ∷
+      sample_of 0 ∷
+      spinel_frame (0x2A ∷ 0x61 ∷ 0x00 ∷ 0x05 ∷ 0x31 ∷ 0x02 ∷ 0xE3 ∷ 0x5A ∷ 0x0D ∷ []) ∷
+      sample_of 0 ∷
+      sample_of 3 ∷
+      sample_of 0 ∷
+      sample_of 0 ∷
+      [])
+      (account 1 1 0 ∷ account 2 1 0 ∷ [])
+  -- and so is E0H, permitted by an E4H with a wrong SUM
+  pub any_sum_readdressed : Tallies (
+      asked 0x6A (0x01 ∷ 0x03 ∷ 0x02 ∷ 0x03 ∷ []) ∷
+      asked 0x62 (0x01 ∷ []) ∷
+      sample_of 3 ∷
+      sample_of 0 ∷
+      sample_of 3 ∷
+      asked 0xE4 [] ∷
+      asked 0xEE (0x00 ∷ []) ∷
+      asked 0x61 (0x01 ∷ 0x00 ∷ 0x00 ∷ 0x00 ∷ 0x01 ∷ []) ∷
+      spinel_frame (0x2A ∷ 0x61 ∷ 0x00 ∷ 0x05 ∷ 0x31 ∷ 0x02 ∷ 0xE4 ∷ 0x59 ∷ 0x0D ∷ []) ∷
+      spinel_frame (0x2A ∷ 0x61 ∷ 0x00 ∷ 0x07 ∷ 0x31 ∷ 0x02 ∷ 0xE0 ∷ 0x31 ∷ 0x06 ∷ 0x24 ∷ 0x0D ∷ []) ∷
+      sample_of 0 ∷
+      [])
+      (account 1 1 0 ∷ account 2 1 0 ∷ [])
+  -- SUM tested: the same frames are refused by 4 and change nothing
+  pub wrong_sum : Tallies (
+      asked 0x6A (0x01 ∷ 0x03 ∷ 0x02 ∷ 0x03 ∷ []) ∷
+      asked 0x62 (0x01 ∷ []) ∷
+      sample_of 3 ∷
+      sample_of 0 ∷
+      sample_of 3 ∷
+      asked 0x61 (0x01 ∷ 0x00 ∷ 0x00 ∷ 0x00 ∷ 0x01 ∷ []) ∷
+      spinel_frame (0x2A ∷ 0x61 ∷ 0x00 ∷ 0x09 ∷ 0x31 ∷ 0x02 ∷ 0x6A ∷ 0x01 ∷ 0x00 ∷ 0x02 ∷ 0x00 ∷ 0xCC ∷ 0x0D ∷ []) ∷
+      spinel_frame (0x2A ∷ 0x61 ∷ 0x00 ∷ 0x06 ∷ 0x31 ∷ 0x02 ∷ 0x62 ∷ 0x02 ∷ 0xD8 ∷ 0x0D ∷ []) ∷
+      spinel_frame (0x2A ∷ 0x61 ∷ 0x00 ∷ 0x0A ∷ 0x31 ∷ 0x02 ∷ 0x61 ∷ 0x01 ∷ 0x00 ∷ 0x00 ∷ 0x00 ∷ 0x01 ∷ 0xD5 ∷
+      0x0D ∷ []) ∷
+      spinel_frame (0x2A ∷ 0x61 ∷ 0x00 ∷ 0x06 ∷ 0x31 ∷ 0x02 ∷ 0x60 ∷ 0x82 ∷ 0x5A ∷ 0x0D ∷ []) ∷
+      spinel_frame (0x2A ∷ 0x61 ∷ 0x00 ∷ 0x06 ∷ 0x31 ∷ 0x02 ∷ 0x61 ∷ 0x00 ∷ 0xDB ∷ 0x0D ∷ []) ∷
+      spinel_frame (0x2A ∷ 0x61 ∷ 0x00 ∷ 0x05 ∷ 0x31 ∷ 0x02 ∷ 0xE3 ∷ 0x5A ∷ 0x0D ∷ []) ∷
+      asked 0xE4 [] ∷
+      spinel_frame (0x2A ∷ 0x61 ∷ 0x00 ∷ 0x07 ∷ 0x31 ∷ 0x02 ∷ 0xE0 ∷ 0x31 ∷ 0x06 ∷ 0x24 ∷ 0x0D ∷ []) ∷
+      sample_of 0 ∷
+      [])
+      (account 1 4 1 ∷ account 2 4 0 ∷ [])
+  -- EEH and FEH change nothing: a run of 1, number 2, goes on
+  pub sum_test_turned : Tallies (
+      asked 0x6A (0x01 ∷ 0x03 ∷ 0x02 ∷ 0x03 ∷ []) ∷
+      asked 0x62 (0x01 ∷ []) ∷
+      sample_of 3 ∷
+      sample_of 0 ∷
+      sample_of 3 ∷
+      asked 0x61 (0x01 ∷ 0x00 ∷ 0x00 ∷ 0x00 ∷ 0x01 ∷ []) ∷
+      asked 0x62 (0x02 ∷ []) ∷
+      sample_of 0 ∷
+      asked 0xE4 [] ∷
+      asked 0xEE (0x00 ∷ []) ∷
+      asked 0xFE [] ∷
+      asked 0xEE (0x01 ∷ []) ∷
+      asked 0xE4 [] ∷
+      asked 0xEE (0x01 ∷ []) ∷
+      asked 0xFE [] ∷
+      sample_of 0 ∷
+      [])
+      (account 1 4 1 ∷ account 2 4 0 ∷ [])
 
 pub tally_table : TallyTable
 unfolding computing
@@ -407,5 +526,12 @@ tally_table = record {
   modes_by_registers = refl;
   refused_sample = refl;
   other_frames = refl;
+  sum_test_no_number = refl;
   lists_read = refl;
+  any_sum_counts = refl;
+  any_sum_clears = refl;
+  any_sum_resets = refl;
+  any_sum_readdressed = refl;
+  wrong_sum = refl;
+  sum_test_turned = refl;
 }

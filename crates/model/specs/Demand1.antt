@@ -30,26 +30,27 @@ claimed_order = 7 ∷ 8 ∷ 9 ∷ 10 ∷ 13 ∷ 11 ∷ 12 ∷ []
 unfoldable pub request_checks : {P : Type 0} → Request P → List Check
 request_checks q = map (λ n. check n (q.holds n)) claimed_order
 
--- 2 to 6; 3 is Spinel's alone
-unfoldable pub frame_checks : Wire → ℕ → List ℕ → List Check
-frame_checks w own f =
+-- 2 to 6; 3 is Spinel's alone, and 4 holds of nothing where it is not tested (E5)
+unfoldable pub frame_checks : Wire → Bool → ℕ → List ℕ → List Check
+frame_checks w tested own f =
     check 2 (frame_length_wrong w.least f)
     ∷ check 3 (w.shape_wrong f)
-    ∷ check 4 (w.check_wrong f)
+    ∷ check 4 (tested && w.check_wrong f)
     ∷ check 5 (w.address_wrong own (w.addressee f))
     ∷ check 6 (w.broadcast_wrong f)
     ∷ []
 
 -- of a frame that comes by a wire
-abbrev pub wire_checks : Wire → Module → ℕ → List ℕ → List Check
-wire_checks w m room f = check 1 (buffer_short room) ∷ frame_checks w (w.port m).address f ++ request_checks (request_of w f m)
+abbrev pub wire_checks : Wire → Bool → Module → ℕ → List ℕ → List Check
+wire_checks w tested m room f = check 1 (buffer_short room) ∷ frame_checks w tested (w.port m).address f ++ request_checks (request_of w f m)
 
--- all conditions of a call in the state m, in checking order
+-- all conditions of a call in the state m, in checking order; that the Spinel port's setting tells whether SUM is tested, and that a CRC always
+-- is, is said here once more
 unfoldable pub checks : Module → ℕ → Act → List Check
 checks m room (sample bits) = check 1 (buffer_short room) ∷ []
 checks m room (temperature good tenths) = []
-checks m room (spinel f) = wire_checks spinel_wire m room f
-checks m room (modbus f) = wire_checks modbus_wire m room f
+checks m room (spinel f) = wire_checks spinel_wire m.settings.sum_tested m room f
+checks m room (modbus f) = wire_checks modbus_wire true m room f
 
 -- condition n holds, and no earlier one
 pub data RefusedBy (n : ℕ) : List Check → Type 0 where

@@ -8,6 +8,7 @@ pub mod Counters
 pub mod Temperature
 pub mod Outputs
 pub mod Notice
+pub mod SumTest
 pub mod Registers
 pub mod Spinel
 pub mod Modbus

@@ -108,7 +108,7 @@ modbus_asked permitted fn b m =
     (cond (eqb fn 0x10) (several_written permitted b m)
     (not_listed m))))))))
 
--- no byte of its shape is fixed; an exception tells that a request was refused
+-- no byte of its shape is fixed, and no setting leaves 4 out; an exception tells that a request was refused
 abbrev pub modbus_wire : Wire
 modbus_wire = record {
   port = λ m. m.modbus;
@@ -116,6 +116,7 @@ modbus_wire = record {
   least = 4;
   shape_wrong = λ f. false;
   check_wrong = crc_wrong;
+  check_tested = λ m. true;
   addressee = λ f. modbus_to f;
   address_wrong = modbus_address_wrong;
   broadcast_wrong = λ f. modbus_broadcast_wrong (modbus_to f) (function_of f);

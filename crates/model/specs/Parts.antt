@@ -6,7 +6,7 @@ use Rattle.model.specs.declared.Line.{Line}
 use Rattle.model.specs.declared.Port.{Port}
 use Rattle.model.specs.declared.Reading.TheVariants.{Fault}
 use Rattle.model.specs.declared.Module.{Module}
-use Rattle.model.specs.State.{line, notice, port, with_modes, with_counters, with_sampling, with_inputs, with_outputs, with_presets, with_thermostats, with_reading, with_notice, with_spinel, with_modbus}
+use Rattle.model.specs.State.{line, notice, port, with_modes, with_counters, with_sampling, with_inputs, with_outputs, with_presets, with_thermostats, with_reading, with_notice, with_sum_tested, with_spinel, with_modbus}
 use Rattle.model.specs.Frames.{instruction_of, function_of, modbus_body}
 use Rattle.model.specs.Modbus.{start_of}
 use Rattle.model.specs.Call.{Act, Call, sample, temperature, spinel, modbus}
@@ -50,6 +50,9 @@ without_readings m = with_reading m m.outputs Fault Fault
 abbrev pub without_notice : Module → Module
 without_notice m = with_notice m (notice 0 0 0)
 
+abbrev pub without_sum_test : Module → Module
+without_sum_test m = with_sum_tested m false
+
 -- a port's address and speed, and its permission
 
 abbrev unset : Port → Port
@@ -90,7 +93,8 @@ spinel_leaves i m =
     (cond (eqb i 0x6A) (without_modes m)
     (cond (eqb i 0xE0) (without_spinel_settings (without_running m))
     (cond (eqb i 0xE3) (without_running m)
-    m)))))))))))
+    (cond (eqb i 0xEE) (without_sum_test m)
+    m))))))))))))
 
 -- a write of registers from r on
 unfoldable pub registers_leave : ℕ → Module → Module

@@ -1,4 +1,4 @@
--- 01 and E1, the refusals in the order of their checks: each condition by its name.
+-- 01, E1 and E5, the refusals in the order of their checks: each condition by its name.
 use Rattle.std.specs.Prelude.{ℕ, zero, suc, ◌-◌, ◌/◌, ◌%◌, Bool, true, false, cond, not, ◌&&◌, ◌||◌, List, [], ◌∷◌, length, get_or, take, ltb, eqb}
 use Rattle.lists.specs.Tests.{within}
 use Rattle.model.specs.declared.Module.{Module}
@@ -20,7 +20,8 @@ shape_wrong f =
     && (eqb (get_or f (length f - 1) 0) 0x0D
     && eqb (num_of f) (length f - 4))))
 
--- 4. the check is not that of the bytes before it: SUM in the last byte but one, CRC in the last two, low byte first
+-- 4. the check is not that of the bytes before it: SUM in the last byte but one, CRC in the last two, low byte first. A wire tells whether it
+-- is tested at all (E5)
 unfoldable pub sum_wrong : List ℕ → Bool
 sum_wrong f = not (eqb (get_or f (length f - 2) 0) (sum_of (take (length f - 2) f)))
 

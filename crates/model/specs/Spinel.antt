@@ -1,7 +1,7 @@
 -- A Spinel frame: what its instruction asks for, and its wire.
 use Rattle.std.specs.Prelude.{ℕ, Bool, cond, List, eqb}
 use Rattle.model.specs.declared.Module.{Module}
-use Rattle.model.specs.State.{with_outputs, with_spinel, with_counters, with_modes, with_sampling, with_presets, with_thermostats, with_notice}
+use Rattle.model.specs.State.{with_outputs, with_spinel, with_counters, with_modes, with_sampling, with_presets, with_thermostats, with_notice, with_sum_tested}
 use Rattle.model.specs.Samples.{input_states}
 use Rattle.model.specs.Frames.{spinel_to, signature_of, instruction_of, spinel_data, universal, spinel_broadcast, spinel_reply}
 use Rattle.model.specs.Refusals.{Request, not_listed, on_part, reading, ack_of, shape_wrong, sum_wrong, spinel_address_wrong, spinel_broadcast_wrong}
@@ -9,6 +9,7 @@ use Rattle.model.specs.Wire.{Wire}
 use Rattle.model.specs.Counters.{list_read, read_counters, deduct_counters, set_modes_list, mode_shown, set_sampling, read_sampling, give_permission, set_port, read_port, reset_module}
 use Rattle.model.specs.Outputs.{set_outputs, set_pulses, set_presets, start_presets, pulse_shown, preset_shown, mode_byte, output_states, read_states}
 use Rattle.model.specs.Notice.{set_notice, read_notice}
+use Rattle.model.specs.SumTest.{set_sum_test, read_sum_test}
 use Rattle.model.specs.Temperature.{read_temperature, set_thermostats, read_thermostats}
 
 -- a request's words: was the port permitted, did it come to FE, its signature, instruction and data
@@ -48,8 +49,10 @@ spinel_asked q m =
     (cond (eqb i 0xE0) (set_port q.permitted q.to_universal d m)
     (cond (eqb i 0xE3) (reset_module d m)
     (cond (eqb i 0xE4) (on_part (with_spinel m) (give_permission q.to_universal d m.spinel))
+    (cond (eqb i 0xEE) (on_part (with_sum_tested m) (set_sum_test q.permitted d))
     (cond (eqb i 0xF0) (reading m (read_port d m.spinel))
-    (not_listed m))))))))))))))))))))))))
+    (cond (eqb i 0xFE) (reading m (read_sum_test d s.sum_tested))
+    (not_listed m))))))))))))))))))))))))))
 
 unfoldable pub spinel_request : Bool → List ℕ → SpinelRequest
 spinel_request permitted f = record { permitted = permitted; to_universal = eqb (spinel_to f) universal; signature = signature_of f; instruction = instruction_of f; content = spinel_data f }
@@ -62,6 +65,7 @@ spinel_wire = record {
   least = 9;
   shape_wrong = shape_wrong;
   check_wrong = sum_wrong;
+  check_tested = λ m. m.settings.sum_tested;
   addressee = λ f. spinel_to f;
   address_wrong = spinel_address_wrong;
   broadcast_wrong = λ f. spinel_broadcast_wrong (spinel_to f) (instruction_of f);

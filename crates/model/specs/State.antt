@@ -1,5 +1,5 @@
 -- The state: its fresh value, and each part put in place of the old.
-use Rattle.std.specs.Prelude.{ℕ, Bool, false, List, replicate, ℤ, pos}
+use Rattle.std.specs.Prelude.{ℕ, Bool, true, false, List, replicate, ℤ, pos}
 use Rattle.model.specs.declared.Line.{Line}
 use Rattle.model.specs.declared.Inputs.{Inputs}
 use Rattle.model.specs.declared.Output.{Output}
@@ -52,7 +52,8 @@ fresh_preset = preset 0 0
 abbrev pub fresh_thermostat : Thermostat
 fresh_thermostat = thermostat 0 (pos 0) (pos 0) 0 0
 
--- fresh (01): nothing is on, counted, set or read yet; the sampling number is 20, each port has the address 31H and the speed code 6
+-- fresh (01): nothing is on, counted, set or read yet; the sampling number is 20, each port has the address 31H and the speed code 6, and SUM
+-- is tested (E5)
 unfoldable pub fresh_module : Module
 fresh_module = record {
   inputs = record { lines = replicate 16 fresh_line; counters = replicate 16 0 };
@@ -63,6 +64,7 @@ fresh_module = record {
     presets = replicate 16 fresh_preset;
     thermostats = replicate 16 fresh_thermostat;
     notice = notice 0 0 0;
+    sum_tested = true;
   };
   reading = Fault;
   last = Fault;
@@ -97,19 +99,22 @@ abbrev pub with_counters : Module → List ℕ → Module
 with_counters m cs = with_inputs m (record { lines = m.inputs.lines; counters = cs })
 
 abbrev pub with_modes : Module → List ℕ → Module
-with_modes m ms = with_settings m (record { modes = ms; sampling = m.settings.sampling; presets = m.settings.presets; thermostats = m.settings.thermostats; notice = m.settings.notice })
+with_modes m ms = with_settings m (record { modes = ms; sampling = m.settings.sampling; presets = m.settings.presets; thermostats = m.settings.thermostats; notice = m.settings.notice; sum_tested = m.settings.sum_tested })
 
 abbrev pub with_sampling : Module → ℕ → Module
-with_sampling m n = with_settings m (record { modes = m.settings.modes; sampling = n; presets = m.settings.presets; thermostats = m.settings.thermostats; notice = m.settings.notice })
+with_sampling m n = with_settings m (record { modes = m.settings.modes; sampling = n; presets = m.settings.presets; thermostats = m.settings.thermostats; notice = m.settings.notice; sum_tested = m.settings.sum_tested })
 
 abbrev pub with_presets : Module → List Preset → Module
-with_presets m ps = with_settings m (record { modes = m.settings.modes; sampling = m.settings.sampling; presets = ps; thermostats = m.settings.thermostats; notice = m.settings.notice })
+with_presets m ps = with_settings m (record { modes = m.settings.modes; sampling = m.settings.sampling; presets = ps; thermostats = m.settings.thermostats; notice = m.settings.notice; sum_tested = m.settings.sum_tested })
 
 abbrev pub with_thermostats : Module → List Thermostat → Module
-with_thermostats m hs = with_settings m (record { modes = m.settings.modes; sampling = m.settings.sampling; presets = m.settings.presets; thermostats = hs; notice = m.settings.notice })
+with_thermostats m hs = with_settings m (record { modes = m.settings.modes; sampling = m.settings.sampling; presets = m.settings.presets; thermostats = hs; notice = m.settings.notice; sum_tested = m.settings.sum_tested })
 
 abbrev pub with_notice : Module → Notice → Module
-with_notice m n = with_settings m (record { modes = m.settings.modes; sampling = m.settings.sampling; presets = m.settings.presets; thermostats = m.settings.thermostats; notice = n })
+with_notice m n = with_settings m (record { modes = m.settings.modes; sampling = m.settings.sampling; presets = m.settings.presets; thermostats = m.settings.thermostats; notice = n; sum_tested = m.settings.sum_tested })
+
+abbrev pub with_sum_tested : Module → Bool → Module
+with_sum_tested m b = with_settings m (record { modes = m.settings.modes; sampling = m.settings.sampling; presets = m.settings.presets; thermostats = m.settings.thermostats; notice = m.settings.notice; sum_tested = b })
 
 -- permission (01): whether the next frame that 1 to 6 let through may configure the port
 abbrev pub permit : Bool → Port → Port

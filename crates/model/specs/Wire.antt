@@ -1,5 +1,5 @@
 -- One frame on either port: what both do (01, refusals 1 to 6, permission and reply), over what differs between their wires.
-use Rattle.std.specs.Prelude.{ℕ, Bool, false, cond, List, [], eqb}
+use Rattle.std.specs.Prelude.{ℕ, Bool, false, cond, ◌&&◌, List, [], eqb}
 use Rattle.model.specs.declared.Port.{Port}
 use Rattle.model.specs.declared.Module.{Module}
 use Rattle.model.specs.State.{permit}
@@ -11,9 +11,10 @@ pub record Wire : Type 0 where
   pub with_port : Module → Port → Module
   -- 2: the fewest bytes of a frame
   pub least : ℕ
-  -- 3 and 4
+  -- 3; 4, and whether it is tested in this state (E5)
   pub shape_wrong : List ℕ → Bool
   pub check_wrong : List ℕ → Bool
+  pub check_tested : Module → Bool
   -- whom a frame is for; 5, by the port's own address; 6
   pub addressee : List ℕ → ℕ
   pub address_wrong : ℕ → ℕ → Bool
@@ -25,12 +26,12 @@ pub record Wire : Type 0 where
   -- the reply to a frame, from this address
   pub replied : ℕ → List ℕ → Done Module → List ℕ
 
--- 2 to 6 of a frame for the port with address own: the first that holds, or 0
-unfoldable pub frame_refusal : Wire → ℕ → List ℕ → ℕ
-frame_refusal w own f =
+-- 2 to 6 of a frame for the port with address own, where 4 is tested or not: the first that holds, or 0
+unfoldable pub frame_refusal : Wire → Bool → ℕ → List ℕ → ℕ
+frame_refusal w tested own f =
     cond (frame_length_wrong w.least f) 2
     (cond (w.shape_wrong f) 3
-    (cond (w.check_wrong f) 4
+    (cond (tested && w.check_wrong f) 4
     (cond (w.address_wrong own (w.addressee f)) 5
     (cond (w.broadcast_wrong f) 6 0))))
 
@@ -55,7 +56,7 @@ unfoldable pub frame_acted : Wire → List ℕ → Module → Out
 frame_acted w f m = frame_answered w (w.port m).address f (judged (used_up w m) (request_of w f m))
 
 unfoldable pub frame_handled : Wire → List ℕ → Module → Out
-frame_handled w f m = if_passes (frame_refusal w (w.port m).address f) m (frame_acted w f m)
+frame_handled w f m = if_passes (frame_refusal w (w.check_tested m) (w.port m).address f) m (frame_acted w f m)
 
 -- with a lent buffer: too short a one is refused 1
 unfoldable pub frame_call : Wire → ℕ → List ℕ → Module → Out

@@ -104,8 +104,8 @@ pub struct Port {
     pub permitted: bool,
 }
 
-// What only requests change, and a reset keeps: the inputs' modes and sampling number, presets, thermostats, the notice. Modes
-// are bytes and no enum: any may be stored, and is shown so.
+// What only requests change, and a reset keeps: the inputs' modes and sampling number, presets, thermostats, the notice, and whether
+// the Spinel port tests SUM. Modes are bytes and no enum: any may be stored, and is shown so.
 #[derive(Clone, Copy)]
 pub struct Settings {
     pub modes: [u8; 16],
@@ -113,6 +113,7 @@ pub struct Settings {
     pub presets: [Preset; 16],
     pub thermostats: [Thermostat; 16],
     pub notice: Notice,
+    pub sum_tested: bool,
 }
 
 // The whole state. `last` is the last valid reading, a fault where there was none: `Reading` says that by its own two cases.

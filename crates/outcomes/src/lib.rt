@@ -3,7 +3,7 @@
 
 ghost use Rattle.std.specs.Prelude.{◌≡◌, []};
 ghost use Rattle.lists.specs.Data.{data_of};
-ghost use Rattle.model.specs.State.{with_counters, with_outputs, with_modes, with_sampling, with_presets, with_thermostats, with_notice, with_spinel, with_modbus};
+ghost use Rattle.model.specs.State.{with_counters, with_outputs, with_modes, with_sampling, with_presets, with_thermostats, with_notice, with_sum_tested, with_spinel, with_modbus};
 ghost use Rattle.model.specs.Refusals.{silent};
 ghost use Rattle.model.specs.Numbers.{number_of};
 ghost use Rattle.encoding.specs.Answers.{told};
@@ -128,6 +128,19 @@ pub fn with_notice(m: Module, notice: Notice) -> Module
     Module {
         settings: Settings {
             notice,
+            ..m.settings
+        },
+        ..m
+    }
+}
+
+// The module with the test of SUM on or off.
+pub fn with_sum_tested(m: Module, sum_tested: bool) -> Module
+    ensures { result ≡ with_sum_tested m sum_tested }
+{
+    Module {
+        settings: Settings {
+            sum_tested,
             ..m.settings
         },
         ..m

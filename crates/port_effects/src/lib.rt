@@ -1,4 +1,4 @@
-// The notice's settings, and the ports' address, speed and permission.
+// The notice's settings, the ports' address, speed and permission, and the test of SUM.
 #![tactic(auto)]
 
 ghost use Rattle.std.specs.Prelude.{◌≡◌, cond, not, ◌&&◌, ℕ, eqb, length, get_or};
@@ -9,6 +9,7 @@ ghost use Rattle.model.specs.Numbers.{refused_by};
 ghost use Rattle.model.specs.Refusals.{refusal_of};
 ghost use Rattle.model.specs.Counters.{read_port};
 ghost use Rattle.model.specs.Notice.{is_on, mask_given, set_notice, read_notice};
+ghost use Rattle.model.specs.SumTest.{read_sum_test};
 ghost use Rattle.model.specs.Registers.{port_settable};
 ghost use Rattle.encoding.specs.Answers.{told, told_of};
 ghost use Rattle.port_effects.specs.Parts.{set_port_byte};
@@ -91,6 +92,15 @@ pub fn read_port(d: &[u8], p: Port) -> Result<Data, Refusal>
 {
     encoding::no_data(d)?;
     Ok(encoding::empty().push(p.address).push(p.speed))
+}
+
+// FEH: 01 while SUM is tested, else 00.
+#[tactic(auto, using(encoding::proofs::Telling::told_refused, encoding::proofs::Telling::told_answered), unfolding(model::specs::SumTest::read_sum_test, model::specs::Refusals::refusal_of))]
+pub fn read_sum_test(d: &[u8], tested: bool) -> Result<Data, Refusal>
+    ensures { told result ≡ told_of (read_sum_test d.now tested) }
+{
+    encoding::no_data(d)?;
+    Ok(encoding::empty().push(u8::from(tested)))
 }
 
 // Registers 1 and 2 --------------------------------------------------------------------------

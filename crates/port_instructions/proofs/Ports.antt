@@ -1,4 +1,4 @@
--- E0H and E4H, refused and done. Assumes nothing.
+-- E0H, E4H and EEH, refused and done. Assumes nothing.
 use Rattle.std.proofs.Common.{◌≡◌, refl, ◌∙◌, [], List, ℕ, Bool, true, false, length, get_or}
 use mathlib.Core.Bool.{cond, not, ◌||◌}
 use lib.Dec.{eqb, ltb}
@@ -6,9 +6,10 @@ use Rattle.lists.specs.Data.{data_of}
 use Rattle.lists.specs.Tests.{within}
 use Rattle.lists.proofs.Choices.{not-and, within_zero}
 use Rattle.model.specs.declared.Module.{Module}
-use Rattle.model.specs.State.{with_spinel, permit}
+use Rattle.model.specs.State.{with_spinel, with_sum_tested, permit}
 use Rattle.model.specs.Refusals.{Request, on_part, refusal_of}
 use Rattle.model.specs.Counters.{some_data, give_permission, set_port, reset}
+use Rattle.model.specs.SumTest.{set_sum_test}
 use Rattle.model.proofs.Refusing.{stops, goes}
 use Rattle.outcomes.proofs.Laws.{Refused, Done, Passes, refused_first, refused_later, done_later}
 
@@ -77,3 +78,32 @@ module _ (m : Module) (permitted universal : Bool) (d : List ℕ) where
       → Done m port (reset (with_spinel m (record { address = get_or d 0 0; speed = get_or d 1 0; permitted = false })))
   unfolding set_port
   port_set = by_none m port wrong closed misfit first _ refl refl
+
+module _ (m : Module) (permitted : Bool) (d : List ℕ) where
+  -- EEH
+  abbrev turned : Request Module
+  turned = on_part (with_sum_tested m) (set_sum_test permitted d)
+
+  abbrev amiss : Bool
+  amiss = not (eqb (length d) 1)
+
+  -- the number for neither 00 nor 01
+  abbrev neither : ℕ
+  neither = cond (ltb 1 (get_or d 0 0)) 11 0
+
+  turned_first : refusal_of turned ≡ cond amiss 8 (cond (not permitted) 10 neither)
+  unfolding set_sum_test refusal_of
+  turned_first = rw (within_zero 1 (get_or d 0 0))
+
+  pub turned_length : Refused m turned (cond amiss 8 0)
+  turned_length = by_length m turned amiss (not permitted) neither turned_first
+
+  pub turned_closed : Passes amiss 8 → Refused m turned (cond (not permitted) 10 0)
+  turned_closed = by_permission m turned amiss (not permitted) neither turned_first
+
+  pub turned_unfit : Passes amiss 8 → Passes (not permitted) 10 → Refused m turned neither
+  turned_unfit = by_value m turned amiss (not permitted) neither turned_first
+
+  pub turned_so : Passes amiss 8 → Passes (not permitted) 10 → 0 ≡ neither → Done m turned (with_sum_tested m (eqb (get_or d 0 0) 1))
+  unfolding set_sum_test
+  turned_so = by_none m turned amiss (not permitted) neither turned_first _ refl refl

@@ -1,11 +1,12 @@
-// What Spinel's instructions come to for the port itself, the notice and the reset: decoded, judged, applied.
+// What Spinel's instructions come to for the port itself, the test of SUM, the notice and the reset: decoded, judged, applied.
 #![tactic(auto)]
 
 ghost use Rattle.std.specs.Prelude.{◌≡◌};
-ghost use Rattle.model.specs.State.{with_spinel, with_notice};
+ghost use Rattle.model.specs.State.{with_spinel, with_notice, with_sum_tested};
 ghost use Rattle.model.specs.Refusals.{on_part, reading, judged};
 ghost use Rattle.model.specs.Counters.{give_permission, set_port, read_port, reset_module};
 ghost use Rattle.model.specs.Notice.{set_notice, read_notice};
+ghost use Rattle.model.specs.SumTest.{set_sum_test, read_sum_test};
 ghost use Rattle.outcomes.specs.Parts.{outcome, served_of};
 
 use model::{Module, Port, Refusal};
@@ -73,4 +74,24 @@ pub fn read_port(m: Module, d: &[u8]) -> Result<Served, Refusal>
     ensures { outcome m result ≡ served_of (judged m (reading m (read_port d.now m.spinel))) }
 {
     outcomes::told(m, port_effects::read_port(d, m.spinel))
+}
+
+// EEH: the test of SUM on or off.
+#[tactic(auto, using(crate::proofs::Ports::turned_length, crate::proofs::Ports::turned_closed, crate::proofs::Ports::turned_unfit, crate::proofs::Ports::turned_so))]
+pub fn set_sum_test(m: Module, permitted: bool, d: &[u8]) -> Result<Served, Refusal>
+    ensures { outcome m result ≡ served_of (judged m (on_part (with_sum_tested m) (set_sum_test permitted d.now))) }
+{
+    encoding::refused_if(d.len() != 1, Refusal::DataLength)?;
+    encoding::refused_if(!permitted, Refusal::Permission)?;
+    let state = encoding::at(d, 0);
+    encoding::refused_if(1 < state, Refusal::Value)?;
+    Ok(Served::without_data(outcomes::with_sum_tested(m, state == 1)))
+}
+
+// FEH
+#[tactic(auto, using(outcomes::proofs::Laws::told_law))]
+pub fn read_sum_test(m: Module, d: &[u8]) -> Result<Served, Refusal>
+    ensures { outcome m result ≡ served_of (judged m (reading m (read_sum_test d.now m.settings.sum_tested))) }
+{
+    outcomes::told(m, port_effects::read_sum_test(d, m.settings.sum_tested))
 }

@@ -26,8 +26,8 @@ impl Wire for SpinelWire {
         outcomes::with_spinel(m, port)
     }
 
-    fn refusal(own: u8, frame: &[u8]) -> Result<(), Refusal> {
-        frames::spinel_refusal(own, frame)
+    fn refusal(m: &Module, frame: &[u8]) -> Result<(), Refusal> {
+        frames::spinel_refusal(m.settings.sum_tested, m.spinel.address, frame)
     }
 
     // What the instruction asks for; 7 where 01 lists none of that byte.
@@ -60,7 +60,9 @@ impl Wire for SpinelWire {
             0xE0 => port_instructions::set_port(m, permitted, universal, d),
             0xE3 => port_instructions::reset_module(m, d),
             0xE4 => port_instructions::give_permission(m, universal, d),
+            0xEE => port_instructions::set_sum_test(m, permitted, d),
             0xF0 => port_instructions::read_port(m, d),
+            0xFE => port_instructions::read_sum_test(m, d),
             _ => Err(Refusal::Unlisted),
         }
     }

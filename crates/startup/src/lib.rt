@@ -29,6 +29,7 @@ fn fresh_settings() -> Settings
             mask: 0,
             signature: 0,
         },
+        sum_tested: true,
     }
 }
 

@@ -46,7 +46,7 @@ full s m = record {
   modbus = record { address = 0x05; speed = 8; permitted = m };
 }
 
--- the fields, of any state
+-- the fields, of any state; SUM, which was always tested, still is
 pub record Kept (b : ModuleBefore) : Type 0 where
   pub lines : (taken_over b).inputs.lines ≡ b.inputs.lines
   pub counters : (taken_over b).inputs.counters ≡ b.inputs.counters
@@ -56,6 +56,7 @@ pub record Kept (b : ModuleBefore) : Type 0 where
   pub presets : (taken_over b).settings.presets ≡ b.settings.presets
   pub thermostats : (taken_over b).settings.thermostats ≡ b.settings.thermostats
   pub notice : (taken_over b).settings.notice ≡ b.settings.notice
+  pub sum_tested : (taken_over b).settings.sum_tested ≡ true
   pub reading : (taken_over b).reading ≡ b.reading
   pub last : (taken_over b).last ≡ b.last
   pub spinel_address : (taken_over b).spinel.address ≡ b.spinel.address
@@ -75,6 +76,7 @@ kept b = record {
   presets = refl;
   thermostats = refl;
   notice = refl;
+  sum_tested = refl;
   reading = refl;
   last = refl;
   spinel_address = refl;

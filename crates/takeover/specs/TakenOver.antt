@@ -1,4 +1,5 @@
 -- 02, E4: a state from before the counters had 32 bits, in the module of now. Every field keeps its value.
+use Rattle.std.specs.Prelude.{true}
 use Rattle.model.specs.declared.Inputs.{Inputs}
 use Rattle.model.specs.declared.Settings.{Settings}
 use Rattle.model.specs.declared.Port.{Port}
@@ -12,6 +13,7 @@ use Rattle.takeover.specs.declared.ModuleBefore.{ModuleBefore}
 abbrev pub inputs_over : InputsBefore → Inputs
 inputs_over x = record { lines = x.lines; counters = x.counters }
 
+-- before, SUM was always tested
 abbrev pub settings_over : SettingsBefore → Settings
 settings_over s = record {
   modes = s.modes;
@@ -19,6 +21,7 @@ settings_over s = record {
   presets = s.presets;
   thermostats = s.thermostats;
   notice = s.notice;
+  sum_tested = true;
 }
 
 -- a permission that was given still stands

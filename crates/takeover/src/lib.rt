@@ -65,7 +65,7 @@ impl From<InputsBefore> for Inputs {
     }
 }
 
-// Every setting.
+// Every setting; SUM is tested, as it always was before.
 impl From<SettingsBefore> for Settings {
     ghost from_gives = { λ s settings. settings ≡ settings_over s };
 
@@ -83,6 +83,7 @@ impl From<SettingsBefore> for Settings {
             presets,
             thermostats,
             notice,
+            sum_tested: true,
         }
     }
 }

@@ -29,9 +29,9 @@ pub trait Wire {
     fn with_port(m: Module, port: Port) -> Module
         ensures { result ≡ wire.with_port m port };
 
-    // Checks 2 to 6 of a frame for the port with address `own`.
-    fn refusal(own: u8, frame: &[u8]) -> Result<(), Refusal>
-        ensures { refused_by result ≡ frame_refusal wire own frame.now };
+    // Checks 2 to 6 of a frame, by the port's address and whether 4 is tested.
+    fn refusal(m: &Module, frame: &[u8]) -> Result<(), Refusal>
+        ensures { refused_by result ≡ frame_refusal wire (wire.check_tested m.now) (wire.port m.now).address frame.now };
 
     // What a frame asks for, by whether its port was permitted.
     fn serve(m: Module, permitted: bool, frame: &[u8]) -> Result<Served, Refusal>
@@ -87,7 +87,7 @@ fn act<W: Wire>(m: Module, frame: &[u8]) -> Handled
 pub fn handle<W: Wire>(m: Module, frame: &[u8]) -> Handled
     ensures { handling result ≡ handled_of (frame_handled W.wire frame.now m) }
 {
-    match W::refusal(W::port(&m).address, frame) {
+    match W::refusal(&m, frame) {
         Ok(()) => act::<W>(m, frame),
         Err(refusal) => outcomes::unheard(refusal, m),
     }
