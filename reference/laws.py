@@ -1,5 +1,6 @@
 """What is proved of every state and call, tried on the states and calls of the cases: Refusals and Permissions of Demand1, PartsKept of
-Parts, Conserved of Cycles, and the step of Wraps; and how every request is judged, tried on each set of the conditions 7 to 13.
+Parts, Conserved of Cycles, and the step of Wraps; how every request is judged, tried on each set of the conditions 7 to 13; and
+SettingKept and HeatKept of Temperature, on settings with every byte of flags.
 """
 import itertools
 
@@ -9,6 +10,7 @@ from translate import python
 LIMIT = 4294967296  # a counter is below it
 LONG = 400  # calls: demand 3 is tried on cases of at most so many
 REFUSALS = range(7, 14)  # what a request may be refused by
+READINGS = [("Fault",)] + [("Valid", tenths, 0) for tenths in (-1, 0, 199, 200, 250, 251, 300, 301)]
 
 
 def first_of(checks):
@@ -104,6 +106,55 @@ class Turn(Fact):
         return f("Calls.run", f("Wraps.counted", self.count), cycle) != f("Wraps.counted", (self.count + 2) % LIMIT)
 
 
+# Laws about thermostats' settings -----------------------------------------------------------
+
+class SettingKept(Fact):
+    """SettingKept: settings with some flags can be stored where they could be before or else have a new mode; those of before act and show alike."""
+
+    def __init__(self, world, flags):
+        super().__init__(world, "SettingKept at %02XH" % flags, "law")
+        limits = (300, 200), (250, 250), (-1, 0), (32767, -32768)
+        self.settings = [{"flags": flags, "tempx": x, "tempy": y, "time": {"0": time}, "err": err}
+                         for x, y in limits for time in (0, 1, 255) for err in (0, 2, 3)]
+
+    def differs(self, values, key):
+        """For some setting, reading and output."""
+        f = naming(values)
+        return not all(self.kept(f, h) for h in self.settings)
+
+    def kept(self, f, h):
+        """SettingKept of one setting."""
+        before = f("Temperature.fits_before", h)
+        new = f("Temperature.is_new_mode", h)
+        if f("Temperature.thermostat_fits", h) != (before or new) or before and new:
+            return False
+        if any(f("Temperature.free", r, h) != f("Temperature.free_before", r, h) for r in READINGS):
+            return False
+        if not before:
+            return True
+        if f("Temperature.active", h) and (f("Temperature.third_s", h) or f("Temperature.setting_shown", h) != f("Temperature.setting_before", h)):
+            return False
+        outputs = [{"on": on, "left": left} for on in (False, True) for left in (0, 7)]
+        lasts = [r for r in READINGS if r[1:2] in ((), (250,), (301,))]
+        return all(f("Temperature.heated", last, now, h, o) == f("Temperature.heated_before", last, now, h, o)
+                   for last in lasts for now in (199, 200, 250, 300, 301) for o in outputs)
+
+
+class HeatKept(Fact):
+    """HeatKept: a reading does to a module with settings of before what it did."""
+
+    def __init__(self, world, case):
+        super().__init__(world, "HeatKept on " + case.name, "law")
+        self.states = [line.before for line in case.lines]
+
+    def differs(self, values, key):
+        """In some state of a case whose settings could all be stored before."""
+        f = naming(values)
+        kept = [m for m in self.states if all(f("Temperature.fits_before", h) for h in m["settings"]["thermostats"])]
+        readings = ("Fault",), ("Valid", 301, 0), ("Valid", 199, 0)
+        return any(f("Temperature.taken", r, m) != f("Temperature.taken_before", r, m) for m in kept for r in readings)
+
+
 # A law about a request -----------------------------------------------------------------------
 
 class Judged(Fact):
@@ -129,5 +180,8 @@ def laws(world, cases):
     short = [case for case in cases if case.start == "fresh_module" and sum(count for line in case.lines for _, count in line.calls) <= LONG]
     yield from (Conserved(world, case).noted() for case in short)
     yield from (Turn(world, count).noted() for count in (0, 254, 65534, LIMIT - 3, LIMIT - 2, LIMIT - 1))
+    yield from (SettingKept(world, flags).noted() for flags in range(256))
+    heated = [case for case in cases if any(one["act"][0] == "temperature" for line in case.lines for one, _ in line.calls)]
+    yield from (HeatKept(world, case).noted() for case in heated)
     sets = (numbers for count in range(len(REFUSALS) + 1) for numbers in itertools.combinations(REFUSALS, count))
     yield from (Judged(world, numbers).noted() for numbers in sets)

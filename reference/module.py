@@ -1,4 +1,4 @@
-"""Documents 01 and 02 (E1, E4, E5) in Python, written from the papers alone: the expected bytes of the tables in crates/model/proofs, and of the programs' stored
+"""Documents 01 and 02 (E1, E4, E5, E6) in Python, written from the papers alone: the expected bytes of the tables in crates/model/proofs, and of the programs' stored
 output where 01 gives another reply than a source, are worked out with it. None is captured from the definitions or from the proved code.
 
 Module has a method for each call: sample, temperature, spinel, modbus. Each answers the refusal's number (0: accepted) and the reply's bytes.
@@ -111,7 +111,10 @@ class Module:
                 f, x, y, tm, err = self.out[k].th
                 if not f & 0x80: continue
                 ss = f >> 5 & 3
-                if ss == 0:
+                if f & 8:                    # the third S: by the band, its ends included; SS 10 and 11, which no call stores with it, go as 01
+                    within = y <= tenths <= x
+                    self.set(k, 1 if within == (ss == 0) else 0)
+                elif ss == 0:
                     if tenths > x: self.set(k, 1)
                     elif tenths < y: self.set(k, 0)
                 elif ss == 1:
@@ -189,8 +192,8 @@ class Module:
     def thermo_ok(f, x, y, t, e):
         if e > 2: return False
         if f & 0x80:
-            if f & 15 != 1 or x < y: return False
-            if f & 0x40 and t == 0: return False
+            if f & 7 != 1 or x < y: return False
+            if f & 0x40 and (f & 8 or t == 0): return False
         return True
     def i1A(self, d, a, sig, perm):
         for j in range(0, len(d), 8):
@@ -244,7 +247,7 @@ class Module:
         r = []
         for k in self.listread(d):
             f = self.out[k].th[0]
-            r.append(0xA0 + (f >> 4 & 7) if f & 0x80 else self.out[k].ptype)
+            r.append(0xA0 + (f & 8) + (f >> 4 & 7) if f & 0x80 else self.out[k].ptype)
         return bytes(r)
     def i51(self, d, a, sig, perm):
         if d[0] > 1: raise Ref(11)
@@ -490,3 +493,15 @@ if __name__ == '__main__':
     assert m.modbus(h('3103006400010000')) == (4, b'')
     assert m.spinel(h('2A6100053102E4FF0D'))[0] == 0 and m.spinel(h('2A6100063102EE01FF0D'))[0] == 0 and m.spinel(any_sum) == (4, b'')
     print('test of SUM ok')
+    m = Module()
+    assert m.spinel(spin(0x31, 2, 0x1A, h('018900C800640000 02A900C800640000')))[0] == 0 and m.outputs() == 0
+    for t, on in ((99, 2), (100, 1), (150, 1), (200, 1), (201, 2)):
+        m.set(0, on & 1, 7); m.set(1, on >> 1, 7)
+        m.temperature(True, t); assert m.outputs() == on and m.out[0].left == m.out[1].left == 0
+        m.set(0, 1 - (on & 1), 7); m.set(1, 1 - (on >> 1), 7)
+        m.temperature(True, t); assert m.outputs() == on and m.out[0].left == m.out[1].left == 0
+        assert m.held(0) == m.held(1) == (on == 2)
+    assert m.spinel(spin(0x31, 2, 0x38, [2, 1, 3])) == (0, spin(0x31, 2, 0, h('AAA800')))
+    for f in (0xC9, 0xD9, 0xE9, 0xF9, 0x88, 0x8A, 0x8F): assert m.spinel(spin(0x31, 2, 0x1A, [3, f] + list(h('00C800640100'))))[0] == 11
+    assert m.spinel(spin(0x31, 2, 0x1A, h('0369006400C80000')))[0] == 0 and not m.held(2)
+    print('thermostat modes ok')

@@ -592,11 +592,20 @@ OUTPUTS = [
          S(0x26, 1, 2, 1, 2, 2, 1), S(0x1A, *group(1, 0x81, 300, 200)), S(0x20, 0x81), S(0x20, 0x82, 0x81), S(0x20, 0x81, 17), S(0x23, 1, 0x81),
          S(0x23, 1, 0x82, 1), S(0x23, 0, 0x81), S(0x25, 1), S(0x25, 2, 1), S(0x25, 1, 3), S(0x26, 1, 3, 2), S(0x36, 1), S(0x30), S(0x33, 2),
          T(250), S(0x20, 0x82, 0x81), S(0x25, 1), S(0x33, 1, 2)),
-    case("shown_modes", "38H: A0H and SSK where F is 1, the preset's type where it is 0",
+    case("shown_modes", "38H: A0H with SSK where F is 1, without the third S; the preset's type where it is 0",
          S(0x26, 1, 2, 1, 9, 3, 1), *[S(0x1A, *group(1, f, 300, 200, 1)) for f in (0x81, 0x91, 0xA1)], S(0x38, 1),
          S(0x1A, *group(2, 0x81, 1, 0), *group(3, 0x91, 1, 0), *group(4, 0xA1, 1, 0), *group(5, 0xB1, 1, 0), *group(6, 0xC1, 1, 0, 1),
            *group(7, 0xD1, 1, 0, 1), *group(8, 0xE1, 1, 0, 1), *group(9, 0x71, 1, 0), *group(10, 0xF1, 1, 0, 1)),
          S(0x38, 2, 3, 4, 5, 6, 7, 8, 9, 10, 11)),
+    typed("shown_bands", "38H (E6): bit 3 is the third S where F is 1, beside SSK; where F is 0 it is the preset's type, whatever the flags are", "fresh_module",
+          (S(0x26, 13, 2, 1, 14, 3, 1, 1, 3, 1, 9, 2, 1, 10, 3, 1), ack()),
+          (S(0x1A, *[b for k, f in enumerate((0x81, 0x91, 0xA1, 0xB1, 0xC1, 0xD1, 0xE1, 0xF1, 0x89, 0x99, 0xA9, 0xB9), 1) for b in group(k, f, 300, 200, 1)]), ack()),
+          (S(0x1A, *group(13, 0x09, 1, 0), *group(14, 0x7F, 1, 0), *group(15, 0x78, 1, 0), *group(16, 0x08, 1, 0)), ack()),
+          (S(0x38, 0), ack(0xA0, 0xA1, 0xA2, 0xA3, 0xA4, 0xA5, 0xA6, 0xA7, 0xA8, 0xA9, 0xAA, 0xAB, 2, 3, 0, 0)), (S(0x38, 12, 1, 9, 9, 13), ack(0xAB, 0xA0, 0xA8, 0xA8, 2)),
+          *[(S(0x38, k), ack(v)) for k, v in ((9, 0xA8), (10, 0xA9), (11, 0xAA), (12, 0xAB), (1, 0xA0), (5, 0xA4), (14, 3), (15, 0))],
+          (S(0x1A, *group(9, 0x09, 300, 200, 1)), ack()), (S(0x38, 9, 10), ack(2, 0xA9)), (W(632, 0xB9, 300, 200, 0), modbus_ack(0x10, *words(632, 4))), (S(0x38, 9), ack(0xAB)),
+          (S(0x1A, *[b for k, f in zip((5, 6, 7, 8, 13, 14, 15, 16), (0x89, 0x99, 0xA9, 0xB9) * 2) for b in group(k, f, 300, 200)]), ack()),
+          (S(0x38, 0), ack(0xA0, 0xA1, 0xA2, 0xA3, 0xA8, 0xA9, 0xAA, 0xAB, 0xAB, 0xA9, 0xAA, 0xAB, 0xA8, 0xA9, 0xAA, 0xAB))),
 ]
 
 # Notice -----------------------------------------------------------------------------------
@@ -629,6 +638,79 @@ def at(flags, time=0, err=0, output=1):
     return S(0x1A, *group(output, flags, 300, 200, time, err))
 
 
+def listing(*groups):
+    """1AH of several outputs."""
+    return S(0x1A, *[b for g in groups for b in g])
+
+
+# with the third S (E6): outputs 1, 2, 5, 6 are on within 20.0 to 30.0, outputs 3, 4, 7, 8 beyond; K 0, then K 1
+BANDS = listing(*[group(k, f, 300, 200) for k, f in enumerate((0x89, 0x89, 0xA9, 0xA9, 0x99, 0x99, 0xB9, 0xB9), 1)])
+# of each two one on, one off
+EACH = S(0x20, 0x81, 2, 0x83, 4, 0x85, 6, 0x87, 8)
+
+
+def reads(*readings):
+    """Valid readings, each with the outputs that 30H shows then."""
+    return [e for tenths, on in readings for e in ((T(tenths), QUIET), (S(0x30), ack(*word(on))))]
+
+
+def commands(k):
+    """The ways to set output k, each with its answer where the output is free and where it is held."""
+    r, coil = 499 + k, k - 1
+    return [(S(0x20, k), ack(), nack(12, 3)), (S(0x23, 1, 0x80 + k), ack(), nack(12, 3)), (S(0x25, k), ack(), nack(12, 3)),
+            (R(6, r, 0xFF01), modbus_ack(6, *words(r, 0xFF01)), modbus_nack(12, 6, 4)), (W(r, 0x0001), modbus_ack(0x10, *words(r, 1)), modbus_nack(12, 0x10, 4)),
+            (R(5, coil, 0xFF00), modbus_ack(5, *words(coil, 0xFF00)), modbus_nack(12, 5, 4)), (C(coil, 1, 0), modbus_ack(0x0F, *words(coil, 1)), modbus_nack(12, 0x0F, 4))]
+
+
+def free(k):
+    return [(c, accepted) for c, accepted, _ in commands(k)]
+
+
+def stopped(k):
+    return [(c, refused) for c, _, refused in commands(k)]
+
+
+# SS 00 and 01 with the third S, either K
+FOUR = (0x89, 0x99, 0xA9, 0xB9)
+
+
+def twelve(limits, f=0xFF):
+    """1AH of outputs 5 to 16: every flags of FOUR, ERR 0 to 2, TIME 0 and not; `f` 0x7F: the same with F = 0."""
+    return listing(*[group(k, FOUR[k % 4] & f, *limits[k // 4 % len(limits)], (1, 0, 255, 2, 0)[k % 5], k % 3) for k in range(5, 17)])
+
+
+def pulses(time, turned=0):
+    """A pulse of each of these outputs, on first or off first; `turned`: the other way round."""
+    return S(0x23, time, *[k + 0x80 * (0x53A6 >> k - 5 & 1 ^ turned) for k in range(5, 17)])
+
+
+def over_pulses(limits, tenths, time=1, run=0, turned=0, idle=True):
+    """Set with F = 0 (or not set yet), pulses started, some samples, set with F = 1, which ends none; then a valid reading."""
+    return [*([twelve(limits, 0x7F)] if idle else []), pulses(time, turned), *([P(0, run)] if run else []), twelve(limits), S(0x33, 0), T(tenths), S(0x33, 0)]
+
+
+def turns(*readings):
+    """Valid readings, 30H after each."""
+    return [c for tenths in readings for c in (T(tenths), S(0x30))]
+
+
+def four(k, flags, x, y, time=0, err=0):
+    """600 up: the thermostat of output k."""
+    return W(596 + 4 * k, flags, x % 65536, y % 65536, time * 256 + err)
+
+
+# limits of a band
+ONE, MANY, WIDE = [(300, 200)], [(-100, -200), (5, -5), (250, 250)], [(32767, -32768), (3000, 2001), (-1001, -1200)]
+LIMITS, IDLE_LIMITS = ((300, 200), (250, 250), (-100, -200), (-201, -201)), ((200, 300), (5, 5), (-200, -100), (300, 200))
+# (flags, limits, TIME, ERR) that are 11
+UNFIT = [(f, LIMITS[(i + e) % 4], (1, 255, 0)[(i + e) % 3], e) for e in (0, 1, 2)
+         for i, f in enumerate((0xC9, 0xD9, 0xE9, 0xF9, 0x88, 0x9D, 0xAB, 0xBF, 0x8C, 0xAE, 0x80, 0x95, 0xA3, 0xB6, 0xC7, 0xD2, 0xE4, 0xF0))]
+UNFIT += [(f, limits, t, e) for e, limits in ((1, (200, 201)), (2, (-201, -200)), (0, (-1, 0)))
+          for t, f in ((0, 0x99), (1, 0xA9), (2, 0xB9), (1, 0x91), (0, 0xA1), (0, 0xB1), (1, 0xC1), (1, 0xF1))]
+UNFIT += [(f, LIMITS[(i + e) % 4], 0, e) for e in (0, 1, 2) for i, f in enumerate((0xC1, 0xD1, 0xE1, 0xF1))]
+UNFIT += [(i * 11 % 128 + 128 * (i % 5 == 0), IDLE_LIMITS[i % 4], (0, 1, 255)[i % 3], (3, 4, 255)[i % 3]) for i in range(24)]
+
+
 THERMOSTATS = [
     case("readings", "51H: 00 or 01; the ends of -100.0 to 200.0; a fault before the first sample, beyond the ends and at a bad mark",
          S(0x51, 0), S(0x51, 1), T(-1000), S(0x51, 1), T(-1001), S(0x51, 0), T(2000), S(0x51, 1), T(2001), S(0x51, 1), T(0), S(0x51, 1), bad(250),
@@ -650,7 +732,7 @@ THERMOSTATS = [
          S(0x1A, *group(0, 0, 0, 0)), S(0x1A, *group(17, 0, 0, 0)), S(0x1A, *group(0x81, 0, 0, 0)), S(0x1B, 0), S(0x1B, 17), S(0x1B, 1, 0),
          S(0x1B, 1, 17)),
     case("group_limits", "1AH with F = 1: the one sensor, TEMPy not over TEMPx as signed tenths, a TIME for SS 10 and 11, ERR to 2; else 11",
-         at(0x80), at(0x82), at(0x8F), at(0x89), S(0x1A, *group(1, 0x81, 200, 201)), S(0x1A, *group(1, 0x81, -201, -200)),
+         at(0x80), at(0x82), at(0x87), at(0x84), S(0x1A, *group(1, 0x81, 200, 201)), S(0x1A, *group(1, 0x81, -201, -200)),
          S(0x1A, *group(1, 0x81, -1, 0)), at(0xC1), at(0xE1), at(0xD1), at(0x81, 0, 3), at(0x81, 0, 255), S(0x1A, *group(2, 0x81, 5, 5), *group(1, 0x80, 5, 5)),
          S(0x1B, 1, 2), S(0x1A, *group(1, 0x81, 200, 200)), S(0x1A, *group(1, 0x81, -200, -201)), S(0x1A, *group(1, 0x81, 0, -1)),
          S(0x1A, *group(1, 0x81, 32767, -32768)), at(0xC1, 1), at(0xE1, 1), at(0xA1), at(0x81, 0, 2), S(0x1B, 1)),
@@ -701,6 +783,127 @@ THERMOSTATS = [
          T(250), S(0x25, 1), S(0x33, 1)),
     case("holding_any_ss", "every SS and K holds alike",
          *[c for f in (0x91, 0xA1, 0xB1, 0xC1, 0xD1, 0xE1, 0xF1) for c in (at(f, 1), FAULT, S(0x20, 0x81), T(301), S(0x20, 0x81), T(300), S(0x20, 1), S(0x20, 0x81))]),
+    typed("bands", "third S (E6): SS 00 is on from TEMPy to TEMPx, off beyond, SS 01 the reverse, whatever K is and the output was", "fresh_module",
+          (BANDS, ack()), *[e for tenths, on in ((200, 0x33), (300, 0x33), (201, 0x33), (299, 0x33), (250, 0x33), (199, 0xCC), (301, 0xCC), (-1000, 0xCC), (2000, 0xCC))
+                            for e in ((T(250), QUIET), (EACH, ack()), *reads((tenths, on)))]),
+    typed("bands_first", "the first valid reading of all sets them (E6): beyond, above", "fresh_module",
+          (BANDS, ack()), (S(0x30), ack(0, 0)), *reads((301, 0xCC), (302, 0xCC), (300, 0x33), (199, 0xCC), (200, 0x33), (2000, 0xCC), (-1000, 0xCC))),
+    typed("bands_first_below", "and below", "fresh_module", (BANDS, ack()), *reads((199, 0xCC), (200, 0x33), (301, 0xCC))),
+    typed("bands_first_within", "and within, at an end, also where a command turned the outputs before", "fresh_module",
+          (EACH, ack()), (BANDS, ack()), (S(0x30), ack(0, 0x55)), *reads((300, 0x33))),
+    typed("bands_again", "every valid reading sets them (E6), the same one too; a fault between with ERR 0 leaves them", "fresh_module",
+          (BANDS, ack()), *reads((250, 0x33)), (EACH, ack()), (S(0x30), ack(0, 0x55)), *reads((250, 0x33)), (EACH, ack()), (FAULT, QUIET), (S(0x30), ack(0, 0x55)), *reads((250, 0x33)),
+          (S(0xE3), ack()), (S(0x30), ack(0, 0)), *reads((250, 0x33)), (T(301), QUIET), (S(0xE3), ack()), (S(0x30), ack(0, 0)), (S(0x1B, 1, 8), ack(*group(1, 0x89, 300, 200), *group(8, 0xB9, 300, 200))),
+          *reads((301, 0xCC))),
+    typed("bands_equal", "TEMPx equal to TEMPy (E6): within is that reading alone", "fresh_module",
+          (listing(group(1, 0x89, 250, 250), group(2, 0xA9, 250, 250), group(3, 0x89, 0, 0), group(4, 0xB9, 0, 0)), ack()),
+          *reads((250, 9), (251, 10), (250, 9), (249, 10), (0, 6), (1, 10), (0, 6), (-1, 10)), (T(250), QUIET), (S(0x20, 1, 0x82), ack()), (S(0x20, 3), nack(12, 3)), *reads((250, 9))),
+    typed("bands_below_zero", "signed limits (E6): -20.0 to -10.0, -0.5 to 0.5, from below every reading to above it, and wholly above", "fresh_module",
+          (listing(group(1, 0x89, -100, -200), group(2, 0xA9, -100, -200), group(3, 0x89, 5, -5), group(4, 0xB9, 5, -5), group(5, 0x99, 32767, -32768), group(6, 0xA9, 32767, -32768),
+                   group(7, 0x89, 3000, 2001), group(8, 0xA9, 3000, 2001)), ack()),
+          *reads((-100, 0x99), (-200, 0x99), (-150, 0x99), (-99, 0x9A), (-201, 0x9A), (150, 0x9A), (5, 0x96), (-5, 0x96), (0, 0x96), (6, 0x9A), (-6, 0x9A), (2000, 0x9A), (-1000, 0x9A))),
+    typed("bands_among", "several in one reading (E6): levels, pulses, bands, each by its own flags and limits; F = 0 with the third S by nothing", "fresh_module",
+          (listing(group(1, 0x81, 300, 200), group(2, 0xA1, 300, 200), group(3, 0xC1, 300, 200, 1), group(4, 0xE1, 300, 200, 1), group(5, 0xD1, 300, 200, 1), group(6, 0xF1, 300, 200, 1),
+                   group(7, 0x89, 300, 200, 1), group(8, 0xA9, 300, 200, 1), group(9, 0x09, 300, 200, 0, 2), group(10, 0x29, 300, 200, 0, 2), group(11, 0x91, 300, 200)), ack()),
+          (listing(group(12, 0xB1, 300, 200), group(16, 0x99, 301, 301)), ack()),
+          *reads((250, 0x0040), (301, 0x8485), (250, 0x0445), (199, 0x0896)),
+          (S(0x33, 3, 4, 5, 6, 7, 8), ack(0x83, 2, 4, 2, 0x85, 2, 6, 2, 7, 0, 0x88, 0)), (P(0, 1000), QUIET), (S(0x30), ack(8, 0xAA)), *reads((200, 0x086A), (301, 0x84A5))),
+    typed("bands_end_pulses", "a reading within ends a pulse (E6), to the state it has and to the other; SS 00 and 01 without the third S leave it", "fresh_module",
+          (listing(group(1, 0x89, 300, 200), group(2, 0x99, 300, 200), group(3, 0xA9, 300, 200), group(4, 0xB9, 300, 200), group(5, 0x81, 300, 200), group(6, 0xA1, 300, 200)), ack()),
+          (T(250), QUIET), (S(0x23, 2, 0x81, 2, 0x83, 4, 0x85, 6), ack()), (S(0x33, 1, 2, 3, 4, 5, 6), ack(0x81, 2, 2, 2, 0x83, 2, 4, 2, 0x85, 2, 6, 2)),
+          (T(260), QUIET), (S(0x33, 1, 2, 3, 4, 5, 6), ack(0x81, 0, 0x82, 0, 3, 0, 4, 0, 0x85, 2, 6, 2)),
+          (P(0, 1000), QUIET), (S(0x33, 1, 2, 3, 4, 5, 6), ack(0x81, 0, 0x82, 0, 3, 0, 4, 0, 5, 0, 0x86, 0))),
+    typed("bands_end_pulses_beyond", "and so does one beyond (E6), above and below", "fresh_module",
+          (BANDS, ack()), (T(200), QUIET), (S(0x23, 1, 0x81, 2, 0x83, 4), ack()), (T(199), QUIET), (S(0x33, 1, 2, 3, 4), ack(1, 0, 2, 0, 0x83, 0, 0x84, 0)),
+          (P(0, 500), QUIET), (S(0x30), ack(0, 0xCC)), (T(300), QUIET), (S(0x23, 1, 0x85, 6, 0x87, 8), ack()), (T(301), QUIET),
+          (S(0x33, 5, 6, 7, 8), ack(5, 0, 6, 0, 0x87, 0, 0x88, 0)), (P(0, 500), QUIET), (S(0x30), ack(0, 0xCC))),
+    typed("bands_take_pulses", "set while a pulse runs (E6), it leaves that until a valid reading: by 23H, 25H, a register, a thermostat", "fresh_module",
+          (S(0x26, 2, 3, 2), ack()), (at(0xC1, 1, output=4), ack()), (T(300), QUIET), (T(301), QUIET), (S(0x23, 2, 0x81), ack()), (S(0x25, 2), ack()),
+          (R(6, 502, 0xFF02), modbus_ack(6, *words(502, 0xFF02))), (S(0x33, 1, 2, 3, 4), ack(0x81, 2, 2, 2, 0x83, 2, 0x84, 2)),
+          (listing(*[group(k, 0xA9, 300, 200) for k in (1, 2, 4)]), ack()), (W(608, 0x89, 300, 200, 0), modbus_ack(0x10, *words(608, 4))),
+          (P(0), QUIET), (S(0x33, 1, 2, 3, 4), ack(0x81, 2, 2, 2, 0x83, 2, 0x84, 2)), (FAULT, QUIET), (S(0x33, 1, 2, 3, 4), ack(0x81, 2, 2, 2, 0x83, 2, 0x84, 2)),
+          (T(302), QUIET), (S(0x33, 1, 2, 3, 4), ack(0x81, 0, 0x82, 0, 3, 0, 0x84, 0)), (P(0, 1000), QUIET), (S(0x30), ack(0, 11))),
+    typed("bands_faults", "ERR with the third S (E6) as ever: 0 leaves, 1 off, 2 on, at every fault, also before any reading; F = 0 by nothing", "fresh_module",
+          (listing(*[group(k, f, 300, 200, 0, e) for k, f, e in ((1, 0x89, 0), (2, 0x99, 1), (3, 0x89, 2), (4, 0xA9, 0), (5, 0xB9, 1), (6, 0xA9, 2), (7, 0x09, 2))]), ack()),
+          (FAULT, QUIET), (S(0x30), ack(0, 0x24)), *reads((250, 0x07)), (FAULT, QUIET), (S(0x30), ack(0, 0x25)), (bad(301), QUIET), (S(0x30), ack(0, 0x25)), *reads((301, 0x38)),
+          (T(2001), QUIET), (S(0x30), ack(0, 0x2C)), *reads((300, 0x07)), (T(-1001), QUIET), (S(0x30), ack(0, 0x25)), *reads((199, 0x38))),
+    typed("bands_faults_end_pulses", "ERR 1 and 2 end a pulse (E6), ERR 0 leaves it", "fresh_module",
+          (listing(*[group(k, f, 300, 200, 0, e) for k, f, e in ((1, 0x89, 0), (2, 0x89, 1), (3, 0x89, 2), (4, 0xA9, 0), (5, 0xA9, 1), (6, 0xA9, 2))]), ack()),
+          (T(250), QUIET), (S(0x23, 1, 0x81, 0x82, 3, 4, 5, 0x86), ack()), (FAULT, QUIET), (S(0x33, 1, 2, 3, 4, 5, 6), ack(0x81, 1, 2, 0, 0x83, 0, 4, 1, 5, 0, 0x86, 0)),
+          (P(0, 500), QUIET), (S(0x30), ack(0, 0x2C))),
+    typed("bands_free", "12 as ever (E6): within, ends included, commands are accepted; the next valid reading sets the outputs again", "fresh_module",
+          (S(0x26, 1, 2, 1, 3, 3, 1), ack()), (BANDS, ack()),
+          *[e for tenths in (250, 200, 300) for k, after in ((1, 0), (3, 4)) for e in ((T(tenths), QUIET), *free(k), (R(5, k - 1, 0xFF00), modbus_ack(5, *words(k - 1, 0xFF00))),
+            (S(0x33, k), ack(0x80 + k, 0)), *reads((tenths, 0x33)), (S(0x33, k), ack(0x81 if k == 1 else 3, 0)))]),
+    typed("bands_held", "a tenth beyond an end and at a fault they are refused (E6), before the first reading too; other outputs are free", "fresh_module",
+          (S(0x26, 1, 2, 1, 3, 3, 1), ack()), (BANDS, ack()), (S(0x20, 0x81), nack(12, 3)), (S(0x20, 0x83), nack(12, 3)),
+          *[e for reading, on in ((T(199), 0xCC), (T(301), 0xCC), (FAULT, 0xCC), (T(2001), 0xCC))
+            for e in ((reading, QUIET), *stopped(1), *stopped(3), (S(0x20, 0x85), nack(12, 3)), (S(0x20, 7), nack(12, 3)), (S(0x33, 1, 3), ack(1, 0, 0x83, 0)), (S(0x30), ack(0, on)))],
+          (S(0x20, 0x89, 0x81), nack(12, 3)), (C(0, 16, 0xFF, 0xFF), modbus_nack(12, 0x0F, 4)), (S(0x20, 0x81, 17), nack(11, 3)), (S(0x23, 0, 0x81), nack(11, 3)), (R(5, 0, 1), modbus_nack(11, 5, 3)),
+          (S(0x20, 1, a=0xFF), (12, [])), (R(5, 0, 0xFF00, a=0), (12, [])), (S(0x30), ack(0, 0xCC)), (S(0x20, 0x89), ack()), (S(0x26, 1, 3, 2), ack()), (at(0x09), ack()), (S(0x20, 0x81), ack()),
+          (S(0x30), ack(1, 0xCD))),
+    typed("bands_stored", "1AH with F = 1 and the third S (E6): SS 00 and 01, either K, TIME 0 or not, TEMPx equal to TEMPy; 1BH shows them", "fresh_module",
+          *[e for f in (0x89, 0x99, 0xA9, 0xB9) for g in (group(1, f, 300, 200), group(16, f, 200, 200, 255, 2), group(2, f, -201, -201, 1, 1))
+            for e in ((S(0x1A, *g), ack()), (S(0x1B, g[0]), ack(*g)))], (S(0x30), ack(0, 0))),
+    typed("bands_refused", "11 (E6) for SS 10 and 11, sensor 0 or 2 to 7, TEMPx below TEMPy by one, ERR 3; the list's good groups are not stored", "fresh_module",
+          (at(0x91, 3, 1), ack()), *[(at(f, t), nack(11, 3)) for f in (0xC9, 0xD9, 0xE9, 0xF9) for t in (0, 1, 255)],
+          *[(at(f, 1), nack(11, 3)) for f in (0x88, 0x8A, 0x8B, 0x8C, 0x8D, 0x8E, 0x8F, 0x98, 0xA8, 0xAA, 0xAB, 0xAF, 0xB8, 0xBF, 0x80, 0x82, 0x83, 0x85, 0x87,
+                                            0xA0, 0xA2, 0xA7, 0xC0, 0xC3, 0xC7, 0xC8, 0xFF)],
+          *[(S(0x1A, *group(1, f, *limits)), nack(11, 3)) for f in (0x89, 0xA9) for limits in ((200, 201), (-201, -200), (-1, 0), (-32768, 32767))],
+          *[(at(f, 0, e), nack(11, 3)) for f in (0x89, 0xB9, 0x09) for e in (3, 255)],
+          (listing(group(2, 0x89, 300, 200), group(1, 0xC9, 300, 200, 1)), nack(11, 3)), (listing(group(1, 0xC9, 300, 200, 1), group(2, 0x89, 300, 200)), nack(11, 3)),
+          (listing(group(2, 0xA9, 300, 200), group(1, 0x8A, 300, 200)), nack(11, 3)), (listing(group(2, 0x81, 300, 200), group(17, 0x89, 300, 200)), nack(11, 3)),
+          (S(0x1B, 1, 2), ack(*group(1, 0x91, 300, 200, 3, 1), *group(2, 0, 0, 0))), (S(0x38, 1, 2), ack(0xA1, 0))),
+    typed("bands_order", "lengths come before it (E6), 8; a refusal by 11 uses the permission up; one to FE is served, one to all is not", "fresh_module",
+          (S(0x1A, *group(1, 0xC9, 300, 200, 1), 0), nack(8, 3)), (S(0x1A, *group(1, 0xC9, 300, 200, 1)[:7]), nack(8, 3)), (S(0x1A, *group(1, 0xE9, 300, 200, 1) * 13), nack(8, 3)),
+          (S(0xE4), ack()), (at(0xC9, 1), nack(11, 3)), (S(0xE0, 0x31, 6), nack(10, 4)), (S(0x1A, *group(1, 0x89, 300, 200), a=0xFF), (6, [])), (S(0x1B, 1), ack(*group(1, 0, 0, 0))),
+          (S(0x1A, *group(1, 0xF9, 300, 200, 1), a=0xFE), nack(11, 3)), (S(0x1A, *group(1, 0x89, 300, 200), a=0xFE), ack()), (S(0x1B, 1), ack(*group(1, 0x89, 300, 200)))),
+    typed("bands_idle", "F = 0 and the third S (E6): all is stored, shown by 1BH and 03; nothing turns by it, and nothing is held", "fresh_module",
+          (S(0x26, 1, 2, 1), ack()), *[e for f in (0x7F, 0x0F, 0x08, 0x48, 0x68, 0x78, 0x49, 0x59, 0x69, 0x79, 0x09, 0x29) for e in ((S(0x1A, *group(1, f, -200, 300, 0, 2)), ack()),
+            (S(0x1B, 1), ack(*group(1, f, -200, 300, 0, 2))), (S(0x38, 1), ack(2)))], (R(3, 600, 4), shown(0x29, 65336, 300, 2)),
+          (listing(group(1, 0x49, 300, 200, 1, 2), group(2, 0x69, 300, 200, 1, 1), group(3, 0x09, 300, 200, 0, 2), group(4, 0x29, 300, 200, 0, 1)), ack()),
+          (S(0x20, 0x82, 0x84), ack()), *reads((250, 10), (301, 10), (250, 10), (199, 10)), (FAULT, QUIET), (S(0x30), ack(0, 10)), (S(0x20, 0x81, 2, 0x83, 4), ack()), (S(0x23, 1, 0x82), ack()),
+          (R(5, 3, 0xFF00), modbus_ack(5, *words(3, 0xFF00))), *reads((199, 15)), (S(0x33, 2), ack(0x82, 1)), (S(0x38, 1, 2), ack(2, 0)), (S(0x1B, 2), ack(*group(2, 0x69, 300, 200, 1, 1)))),
+    typed("bands_set_and_left", "from level to band and back (E6): each reading goes by the flags of now; active again from a stored F = 0", "fresh_module",
+          (at(0x81), ack()), *reads((301, 1)), (at(0x89), ack()), (S(0x30), ack(0, 1)), *reads((301, 0), (250, 1)), (at(0xA1), ack()), *reads((250, 1), (199, 1), (301, 0)),
+          (at(0xA9), ack()), *reads((301, 1), (300, 0)), (at(0x81), ack()), *reads((300, 0), (301, 1)), (at(0x49, 1), ack()), *reads((250, 1)), (at(0xC9, 1), nack(11, 3)),
+          (at(0xC1, 1), ack()), *reads((301, 1)), (S(0x33, 1), ack(0x81, 2)), (at(0x09), ack()), *reads((250, 1)), (S(0x33, 1), ack(0x81, 2)), (at(0x89), ack()), *reads((301, 0)),
+          (S(0x33, 1), ack(1, 0)), *reads((250, 1)), (at(0x89), ack()), (at(0xC1, 1), ack()), (S(0x20, 1), ack()), *reads((301, 1)), (S(0x33, 1), ack(0x81, 2))),
+    case("bands_run_out", "a pulse within the band ends by itself to the opposite state (E6); samples set nothing, the next valid reading does",
+         twelve(ONE), T(250), pulses(1), P(0, 499), S(0x33, 0), P(0), S(0x33, 0), P(0), S(0x30), T(250), S(0x30), S(0x20, *range(5, 17)), P(0), S(0x30),
+         pulses(1, 1), P(0, 500), S(0x30), FAULT, P(0), S(0x30)),
+    case("bands_over_pulses", "a reading at, in and beyond the band ends pulses (E6), also one's last sample, with either K, any TIME and ERR; the first at TEMPx",
+         *over_pulses(ONE, 300, 1, 499, idle=False), *over_pulses(ONE, 200, 2, 0, 1), *over_pulses(ONE, 301, 1, 499, 1), *over_pulses(ONE, 302, 2),
+         *over_pulses(ONE, 199, 1, 499), *over_pulses(ONE, 198), P(0), S(0x33, 0)),
+    case("bands_over_pulses_below", "the same, the first below; then from beyond to beyond, and the same reading twice",
+         *over_pulses(ONE, 199, 1, 499, 1, idle=False), *over_pulses(ONE, 300, 1, 0, 1), *turns(301, 199, 301, 198, 198, 302, 302, 250, 250)),
+    case("bands_over_pulses_above", "the same, the first above", *over_pulses(ONE, 301, 2, idle=False), *over_pulses(ONE, 200, 1, 499, 1)),
+    case("bands_over_pulses_at", "the same, the first at TEMPy", *over_pulses(ONE, 200, 1, 1, 1, idle=False), *over_pulses(ONE, 199, 2, 0, 1)),
+    *[case("bands_over_pulses_" + name, "the same with limits below zero, about zero and alike (E6)", *over_pulses(MANY, a, 1, 0, turned, idle=False),
+           *over_pulses(MANY, b, 2, 0, 1), *over_pulses(MANY, c, 1, 499), *turns(*rest))
+      for name, a, b, c, turned, rest in (("cold", -100, 250, -200, 0, (251, 251, 249, 0, 0, -5, 5)), ("equal", 250, -201, 5, 1, (6, -6, -6, -99, -201)),
+                                          ("zero", 0, 0, 250, 0, (-100, -200, -150, -150)))],
+    case("bands_over_pulses_wide", "the same with a band over, above and below all readings (E6)",
+         *over_pulses(WIDE, -1000, 1, 499, idle=False), *over_pulses(WIDE, 2000, 2, 0, 1), *turns(2000, -1000, -1000, 0)),
+    case("bands_over_faults", "a fault goes by ERR alone (E6): 1 and 2 end a pulse, also its last sample, with either K and SS and any TIME, 0 leaves it; F = 0 leaves all",
+         *[c for limits, turned, run in ((ONE, 0, 0), (ONE, 1, 499), (MANY, 0, 499), (MANY, 1, 0)) for c in (
+             twelve(limits, 0x7F), pulses(1, turned), *([P(0, run)] if run else []), FAULT, S(0x33, 0), twelve(limits), FAULT, S(0x33, 0))]),
+    case("bands_idle_pulses", "F = 0 and the third S (E6): a reading within or beyond leaves a pulse and its output",
+         twelve(ONE, 0x7F), pulses(1), T(250), S(0x33, 0), T(301), S(0x33, 0), T(199), S(0x33, 0), pulses(1, 1), T(300), S(0x33, 0), twelve(MANY, 0x7F), T(5), S(0x33, 0), T(-201), S(0x33, 0)),
+    case("bands_held_any", "12 by reading and limits alone (E6): every command, either SS and K, any TIME and ERR, limits below zero; F = 0 is free within, beyond and at a fault",
+         S(0x26, *[b for k in range(5, 17) for b in (k, 2 + k % 2, 1)]),
+         *[c for n, (groups, reading) in enumerate((
+             (twelve(ONE), T(200)), (twelve(ONE), T(199)), (twelve(ONE), T(301)), (twelve(ONE), T(300)), (twelve(ONE), FAULT), (twelve(MANY), T(-100)), (twelve(MANY), T(-201)), (twelve(MANY), T(5)), (twelve(MANY), FAULT),
+             (twelve(ONE, 0x7F), T(250)), (twelve(ONE, 0x7F), T(199)), (twelve(MANY, 0x7F), FAULT)))
+           for c in (groups, reading, *[commands(k)[(k + 2 * n) % 7][0] for k in range(5, 17)])]),
+    case("actions_stored", "1AH with F = 1: every SS, K and ERR, with the third S and without, limits alike and below zero, TIME 0 where no pulse is meant",
+         *[c for fs in (FOUR, (0x81, 0x91, 0xA1, 0xB1), (0xC1, 0xD1, 0xE1, 0xF1)) for n in (0, 1) for c in (
+             listing(*[group(k, fs[k % 4], *LIMITS[(k + k // 4 + n) % 4], k % 3 * 127 + (fs[0] > 0xC0), (k + n) % 3) for k in range(5, 17)]), FAULT, T(250), S(0xE3), S(0x1B, *range(5, 17)))]),
+    case("idle_stored", "1AH with F = 0: any SS, K, third S, sensor, limits and TIME; a reset keeps them",
+         *[c for n in range(6) for c in (
+             listing(*[group(k, (k * 11 + n * 37) % 128, *IDLE_LIMITS[(k + n) % 4], (0, 1, 255)[(k // 4 + n) % 3], (k + n) % 3) for k in range(5, 17)]), S(0x1B, *range(5, 17)))],
+         FAULT, T(250), S(0xE3), S(0x1B), S(0x38, 0)),
+    case("actions_not_stored", "1AH: each reason of 11 beside each ERR, several limits and TIMEs", *[S(0x1A, *group(1, f, *lim, t, e)) for f, lim, t, e in UNFIT], S(0x1B, 1)),
 ]
 
 # Registers over Modbus ----------------------------------------------------------------------
@@ -773,6 +976,35 @@ REGISTERS = [
     case("thermostat_values", "600 up: flags with a high byte, another sensor, TEMPx below TEMPy, TIME 0 for SS 10, ERR 3: 11",
          W(600, 0x0181, 300, 200, 0), W(600, 0x80, 300, 200, 0), W(600, 0x81, 200, 201, 0), W(600, 0x81, 65535, 0, 0), W(600, 0xC1, 300, 200, 0), W(600, 0x81, 300, 200, 3),
          W(600, 0x01, 300, 200, 0x0003), W(600, 0x0101, 0, 0, 0), S(0x1B, 1), W(600, 0xC1, 300, 300, 0x0100), W(600, 0x81, 0, 65535, 2), S(0x1B, 1)),
+    typed("bands_written", "600 up with the third S (E6): SS 00 and 01 with either K, TIME 0 or not; the same outputs turn, and 38H shows it", "fresh_module",
+          *[e for r, f, k in ((600, 0x89, 1), (604, 0x99, 2), (656, 0xA9, 15), (660, 0xB9, 16)) for e in ((W(r, f, 300, 200, 0), modbus_ack(0x10, *words(r, 4))), (R(3, r, 4), shown(f, 300, 200, 0)),
+            (S(0x1B, k), ack(*group(k, f, 300, 200))))],
+          (S(0x38, 1, 2, 15, 16), ack(0xA8, 0xA9, 0xAA, 0xAB)), (R(5, 0, 0xFF00), modbus_nack(12, 5, 4)),
+          *[e for tenths, on in ((200, 3), (199, 0xC000), (300, 3), (301, 0xC000)) for e in ((T(tenths), QUIET), (R(1, 0, 16), modbus_ack(1, 2, on % 256, on // 256)))],
+          (W(600, 0xA9, 65526, 65526, 0xFF02), modbus_ack(0x10, *words(600, 4))), (R(3, 600, 4), shown(0xA9, 65526, 65526, 0xFF02)), (T(-10), QUIET), (R(1, 0, 1), modbus_ack(1, 1, 0)),
+          (FAULT, QUIET), (R(1, 0, 1), modbus_ack(1, 1, 1)), (T(-11), QUIET), (R(1, 0, 1), modbus_ack(1, 1, 1))),
+    typed("bands_not_written", "600 up (E6): 11 for SS 10 and 11, another sensor, TEMPx below TEMPy, ERR 3, a high byte; 8 and 9 come before", "fresh_module",
+          (W(600, 0x91, 300, 200, 0x0301), modbus_ack(0x10, *words(600, 4))),
+          *[(W(600, f, 300, 200, t), modbus_nack(11, 0x10, 3)) for f in (0xC9, 0xD9, 0xE9, 0xF9) for t in (0, 0x0100, 0xFF00)],
+          *[(W(600, f, 300, 200, 0x0100), modbus_nack(11, 0x10, 3)) for f in (0x88, 0x8A, 0x8B, 0x8D, 0x8F, 0xA8, 0xAA, 0xAF, 0x80, 0x82, 0x83, 0x85, 0x87, 0xC8)],
+          *[(W(600, f, 300, 200, 0x0100), modbus_nack(11, 0x10, 3)) for f in (0x0189, 0x0889, 0x8089, 0x01A9, 0x0109, 0x080F, 0x0801, 0xFF7F)],
+          (W(600, 0x89, 200, 201, 0), modbus_nack(11, 0x10, 3)), (W(600, 0xA9, 65535, 0, 0), modbus_nack(11, 0x10, 3)), (W(600, 0x89, 300, 200, 3), modbus_nack(11, 0x10, 3)),
+          (W(600, 0x09, 300, 200, 3), modbus_nack(11, 0x10, 3)), (M(0x10, *words(600, 4), 7, *words(0xC9, 300, 200), 1), modbus_nack(8, 0x10, 3)), (W(601, 0xC9, 300, 200, 0x0100), modbus_nack(9, 0x10, 2)),
+          (W(600, 0xC9, 300, 200), modbus_nack(9, 0x10, 2)), (R(6, 600, 0x89), modbus_nack(9, 6, 2)), (R(3, 600, 4), shown(0x91, 300, 200, 0x0301)), (S(0x1B, 1), ack(*group(1, 0x91, 300, 200, 3, 1)))),
+    typed("bands_written_idle", "600 up with F = 0 (E6): the third S is stored beside any SS, sensor, limits and TIME, and shown; nothing turns", "fresh_module",
+          *[e for f in (0x7F, 0x0F, 0x68, 0x78, 0x48, 0x08, 0x49, 0x79) for e in ((W(604, f, 65336, 300, 2), modbus_ack(0x10, *words(604, 4))), (R(3, 604, 4), shown(f, 65336, 300, 2)),
+            (S(0x1B, 2), ack(*group(2, f, -200, 300, 0, 2))))],
+          (S(0x38, 2), ack(0)), (T(250), QUIET), (FAULT, QUIET), (R(1, 0, 16), modbus_ack(1, 2, 0, 0)), (R(5, 1, 0xFF00), modbus_ack(5, *words(1, 0xFF00))), (T(301), QUIET),
+          (R(1, 0, 16), modbus_ack(1, 2, 2, 0))),
+    case("actions_written", "600 up: every SS and K with F = 1, with the third S and without; F = 0 with anything; a reset by register 1 keeps them",
+         *[four(k, f, *LIMITS[k % 4], t, k % 3) for k, (f, t) in enumerate([(f, t) for _ in (0, 1) for f, t in zip((*FOUR, 0x81, 0x91, 0xA1, 0xB1), (0, 1, 255, 0, 1, 0, 0, 255))], 1)], S(0x1B),
+         *[four(k, f, *LIMITS[(k + 1) % 4], 1 + k, k % 3) for k, f in enumerate((0xC1, 0xD1, 0xE1, 0xF1), 1)],
+         *[four(k, k * 19 % 128, *IDLE_LIMITS[k % 4], (0, 1, 255)[k % 3], k // 2 % 3) for k in range(5, 17)], S(0x1B), R(6, 0, 255), R(6, 1, 0x31), S(0x1B),
+         *[four(k, (k * 37 + 9) % 128, *IDLE_LIMITS[k // 4 % 4], (0, 1, 255)[k % 3], k % 3) for k in range(1, 17)], S(0x1B)),
+    case("actions_not_written", "600 up: each reason of 11 beside each ERR, several limits and TIMEs", *[four(1, f, *lim, t, e) for f, lim, t, e in UNFIT[::2] + UNFIT[1:36:4]], S(0x1B, 1)),
+    case("bands_written_quiet", "600 up with the third S (E6) turns nothing and ends no pulse: before a reading, beyond the band, at a fault, within",
+         *[c for reading in ([], [T(301)], [FAULT], [T(250)]) for c in (*reading, *[four(k, FOUR[k % 4] & 0x7F, 300, 200) for k in range(5, 9)], S(0x23, 2, 0x85, 6, 7, 0x88),
+           *[four(k, FOUR[k % 4], 300, 200, k % 2, 2 - k % 2) for k in range(5, 9)], S(0x33, 5, 6, 7, 8))]),
     case("thermostat_range", "600 up: 06, another count, misaligned, beside the group: 9",
          R(6, 600, 0x81), R(6, 604, 0), R(6, 663, 0), W(600, 0, 0, 0), W(600, 0, 0, 0, 0, 0), W(600, *[0] * 8), W(601, 0, 0, 0, 0), W(602, 0, 0, 0, 0), W(599, 0, 0, 0, 0),
          W(596, 0, 0, 0, 0), W(661, 0, 0, 0, 0), W(664, 0, 0, 0, 0), R(6, 599, 0), R(6, 664, 0), S(0x1B, 1, 16)),
@@ -844,8 +1076,23 @@ UNREACHED = [
           (T(199), QUIET), (S(0x30), ack(0, 0)), (FAULT, QUIET), (S(0x30), ack(0, 0))),
     typed("sensor_two", "another sensor acts on the one reading", state("thermostats", "thermostat 0x82 (pos 300) (pos 200) 0 2 ∷ replicate 15 fresh_thermostat"),
           (T(301), QUIET), (S(0x30), ack(0, 1)), (T(199), QUIET), (S(0x30), ack(0, 0)), (S(0x20, 0x81), nack(12, 3)), (FAULT, QUIET), (S(0x30), ack(0, 1))),
-    typed("sensor_fifteen", "nor has it a part in SS", state("thermostats", "thermostat 0x9F (pos 300) (pos 200) 0 0 ∷ replicate 15 fresh_thermostat"),
-          (T(301), QUIET), (S(0x30), ack(0, 1)), (T(199), QUIET), (S(0x30), ack(0, 0)), (S(0x38, 1), ack(0xA1))),
+    typed("sensor_seven", "nor has it a part in SS: its three bits leave out the third S (E6)", state("thermostats", "thermostat 0x97 (pos 300) (pos 200) 0 0 ∷ replicate 15 fresh_thermostat"),
+          (T(301), QUIET), (S(0x30), ack(0, 1)), (T(250), QUIET), (S(0x30), ack(0, 1)), (T(199), QUIET), (S(0x30), ack(0, 0)), (S(0x38, 1), ack(0xA1))),
+    typed("sensor_seven_band", "the same sensor beside the third S (E6)",
+          state("thermostats", "thermostat 0x9F (pos 300) (pos 200) 0 0 ∷ thermostat 0xAA (pos 300) (pos 200) 0 2 ∷ replicate 14 fresh_thermostat"),
+          (T(301), QUIET), (S(0x30), ack(0, 2)), (T(300), QUIET), (S(0x30), ack(0, 1)), (S(0x20, 1, 2), ack()), (T(199), QUIET), (S(0x30), ack(0, 2)),
+          (S(0x20, 0x81), nack(12, 3)), (S(0x38, 1, 2), ack(0xA9, 0xAA)), (T(200), QUIET), (FAULT, QUIET), (S(0x30), ack(0, 3))),
+    typed("band_reversed", "the third S (E6) with TEMPx below TEMPy: no reading is within, so SS 00 is off and SS 01 on; it holds at every reading",
+          state("thermostats", "thermostat 0x89 (pos 200) (pos 300) 0 0 ∷ thermostat 0xA9 (pos 200) (pos 300) 0 0 ∷ replicate 14 fresh_thermostat"),
+          (T(250), QUIET), (S(0x30), ack(0, 2)), (S(0x20, 0x81), nack(12, 3)), (T(200), QUIET), (S(0x30), ack(0, 2)), (T(300), QUIET), (S(0x30), ack(0, 2)), (S(0x20, 2), nack(12, 3))),
+    typed("band_err_three", "the third S (E6) with an ERR above 2: a fault does nothing",
+          state("thermostats", "thermostat 0x89 (pos 300) (pos 200) 0 3 ∷ thermostat 0xA9 (pos 300) (pos 200) 0 3 ∷ replicate 14 fresh_thermostat"),
+          (T(250), QUIET), (S(0x30), ack(0, 1)), (FAULT, QUIET), (S(0x30), ack(0, 1)), (T(199), QUIET), (FAULT, QUIET), (S(0x30), ack(0, 2))),
+    typed("band_pulses", "SS 10 and 11 with the third S (E6) go as 01, with either K and whatever TIME is; ERR, holding and 38H are as ever",
+          state("thermostats", """thermostat 0xC9 (pos 300) (pos 200) 1 0 ∷ thermostat 0xD9 (pos 300) (pos 200) 0 1 ∷ thermostat 0xE9 (pos 300) (pos 200) 1 2 ∷
+      thermostat 0xF9 (pos 300) (pos 200) 9 0 ∷ replicate 12 fresh_thermostat"""),
+          (T(301), QUIET), (S(0x30), ack(0, 15)), (S(0x33, 1, 3), ack(0x81, 0, 0x83, 0)), (S(0x20, 1), nack(12, 3)), (T(300), QUIET), (S(0x30), ack(0, 0)), (S(0x20, 0x81, 0x82, 0x84), ack()),
+          (T(200), QUIET), (S(0x30), ack(0, 0)), (T(199), QUIET), (S(0x30), ack(0, 15)), (FAULT, QUIET), (S(0x30), ack(0, 13)), (S(0x38, 1, 2, 3, 4), ack(0xAC, 0xAD, 0xAE, 0xAF))),
     typed("off_with_mask", "a notice that is off and has a mask writes nothing, and its mask is shown", state("notice", "notice 0 0xFFFF 0x05"),
           (S(0x62, 1), ack()), (P(1), QUIET), (S(0x11), ack(0, 0xFF, 0xFF)), (S(0x10, 1, 0, 1), ack()), (S(0x11), ack(0x61, 0, 1))),
     typed("modes_lacking", "a mode that the list lacks reads as 0 and selects no edge", inputs("replicate 16 fresh_line", "[]", "replicate 16 0", 1),

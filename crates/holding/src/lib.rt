@@ -1,8 +1,8 @@
-// What a thermostat's flags say, and whether it holds its output. They are FSSKTTTT; elsewhere they are only stored and shown.
+// What a thermostat's flags say, and whether it holds its output. They are FSSKSTTT; elsewhere they are only stored and shown.
 #![tactic(auto)]
 
 ghost use Rattle.std.specs.Prelude.{◌≡◌};
-ghost use Rattle.model.specs.Temperature.{active, action, on_fall, sensor, setting_shown, free};
+ghost use Rattle.model.specs.Temperature.{active, action, on_fall, third_s, sensor, setting_shown, in_band, free};
 ghost use Rattle.holding.specs.Actions.{bits_of};
 
 use model::{Reading, Thermostat};
@@ -14,11 +14,12 @@ pub fn is_active(h: Thermostat) -> bool
     128 <= h.flags
 }
 
-// SS: what it does to its output. Above TEMPx it is on or off, or a crossing starts a pulse that begins with on or off.
+// SS: what it does to its output, on or off, or a pulse that begins with on or off. Without the third S that is above TEMPx, or at a
+// crossing; with it, in its band.
 #[derive(Clone, Copy)]
 pub enum Action {
-    OnAbove,
-    OffAbove,
+    On,
+    Off,
     OnPulse,
     OffPulse,
 }
@@ -28,8 +29,8 @@ pub fn action_of(h: Thermostat) -> Action
     ensures { bits_of result ≡ action h }
 {
     match h.flags / 32 % 4 {
-        0 => Action::OnAbove,
-        1 => Action::OffAbove,
+        0 => Action::On,
+        1 => Action::Off,
         2 => Action::OnPulse,
         _ => Action::OffPulse,
     }
@@ -42,18 +43,33 @@ pub fn is_on_fall(h: Thermostat) -> bool
     h.flags / 16 % 2 == 1
 }
 
-// TTTT: the sensor's number.
+// The third S: whether it acts in its band.
+pub fn has_third_s(h: Thermostat) -> bool
+    ensures { result ≡ third_s h }
+{
+    h.flags / 8 % 2 == 1
+}
+
+// TTT: the sensor's number.
 pub fn sensor_of(h: Thermostat) -> u8
     ensures { result ≡ sensor h }
 {
-    h.flags % 16
+    h.flags % 8
 }
 
-// SS and K as 38H shows them.
+// The third S, SS and K as 38H shows them.
 pub fn setting_shown(h: Thermostat) -> u8
     ensures { result ≡ setting_shown h }
 {
-    h.flags / 16 % 8
+    let third = if has_third_s(h) { 8 } else { 0 };
+    third + h.flags / 16 % 8
+}
+
+// Whether a temperature is in its band, from TEMPy to TEMPx.
+pub fn is_in_band(h: Thermostat, tenths: i16) -> bool
+    ensures { result ≡ in_band h tenths }
+{
+    (h.tempy..=h.tempx).contains(&tenths)
 }
 
 // Whether a thermostat leaves its output to commands.
@@ -63,7 +79,7 @@ pub fn is_free(r: Reading, h: Thermostat) -> bool
 {
     let off = !is_active(h);
     match r {
-        Reading::Valid(t, _) => off | (h.tempy..=h.tempx).contains(&t),
+        Reading::Valid(t, _) => off | is_in_band(h, t),
         Reading::Fault => off,
     }
 }

@@ -19,6 +19,7 @@ pub mod ClaimTable
 pub mod Wraps
 pub mod Readings
 pub mod SampleLaws
+pub mod SettingsKept
 pub mod Judged
 pub mod Short
 pub mod Refused

@@ -1,14 +1,14 @@
 -- 01, Registers: 03 06 10H on every group, on both sides of it. Written by reference/tables.py. Assumes nothing.
-use mathlib.Core.Bool.{true}
+use mathlib.Core.Bool.{true, false}
 use mathlib.Core.Path.{refl}
 use mathlib.Core.List.{[], ◌∷◌}
 use lib.ListN.{replicate}
-use lib.IntN.{pos}
+use lib.IntN.{pos, negsuc}
 use Rattle.model.specs.State.{fresh_module, with_inputs, with_sampling, with_modes, fresh_line}
 use Rattle.model.proofs.Computing.{unchecked}
 use Rattle.model.proofs.Checksums.{eqb_same, passed}
 use Rattle.model.proofs.Exchanges.{Plays, ◌⇒◌, sample_of, temperature_of, asked, asked_at, sent, sent_to, requested, written, silently, answers}
-use Rattle.model.proofs.Exchanges.{answers_from, gives_from, shows, echoes, excepts, excepts_from}
+use Rattle.model.proofs.Exchanges.{answers_from, gives, gives_from, shows, echoes, excepts, excepts_from}
 
 pub record RegisterTable : Type 0 where
   -- 03: each group from its first to its last register, and no register beside it; 9 elsewhere
@@ -370,6 +370,330 @@ pub record RegisterTable : Type 0 where
       (written 600 (129 ∷ 0 ∷ 0xFFFF ∷ 2 ∷ []) ⇒ echoes 0x10 600 4) ∷
       (asked 0x1B (0x01 ∷ []) ⇒ answers (0x01 ∷ 0x81 ∷ 0x00 ∷ 0x00 ∷ 0xFF ∷ 0xFF ∷ 0x00 ∷ 0x02 ∷ [])) ∷
       [])
+  -- 600 up with the third S (E6): SS 00 and 01 with either K, TIME 0 or not; the same outputs turn, and 38H shows it
+  pub bands_written : Plays fresh_module (
+      (written 600 (137 ∷ 300 ∷ 200 ∷ 0 ∷ []) ⇒ echoes 0x10 600 4) ∷
+      (requested 0x03 600 4 ⇒ shows 0x03 (137 ∷ 300 ∷ 200 ∷ 0 ∷ [])) ∷
+      (asked 0x1B (0x01 ∷ []) ⇒ answers (0x01 ∷ 0x89 ∷ 0x01 ∷ 0x2C ∷ 0x00 ∷ 0xC8 ∷ 0x00 ∷ 0x00 ∷ [])) ∷
+      (written 604 (153 ∷ 300 ∷ 200 ∷ 0 ∷ []) ⇒ echoes 0x10 604 4) ∷
+      (requested 0x03 604 4 ⇒ shows 0x03 (153 ∷ 300 ∷ 200 ∷ 0 ∷ [])) ∷
+      (asked 0x1B (0x02 ∷ []) ⇒ answers (0x02 ∷ 0x99 ∷ 0x01 ∷ 0x2C ∷ 0x00 ∷ 0xC8 ∷ 0x00 ∷ 0x00 ∷ [])) ∷
+      (written 656 (169 ∷ 300 ∷ 200 ∷ 0 ∷ []) ⇒ echoes 0x10 656 4) ∷
+      (requested 0x03 656 4 ⇒ shows 0x03 (169 ∷ 300 ∷ 200 ∷ 0 ∷ [])) ∷
+      (asked 0x1B (0x0F ∷ []) ⇒ answers (0x0F ∷ 0xA9 ∷ 0x01 ∷ 0x2C ∷ 0x00 ∷ 0xC8 ∷ 0x00 ∷ 0x00 ∷ [])) ∷
+      (written 660 (185 ∷ 300 ∷ 200 ∷ 0 ∷ []) ⇒ echoes 0x10 660 4) ∷
+      (requested 0x03 660 4 ⇒ shows 0x03 (185 ∷ 300 ∷ 200 ∷ 0 ∷ [])) ∷
+      (asked 0x1B (0x10 ∷ []) ⇒ answers (0x10 ∷ 0xB9 ∷ 0x01 ∷ 0x2C ∷ 0x00 ∷ 0xC8 ∷ 0x00 ∷ 0x00 ∷ [])) ∷
+      (asked 0x38 (0x01 ∷ 0x02 ∷ 0x0F ∷ 0x10 ∷ []) ⇒ answers (0xA8 ∷ 0xA9 ∷ 0xAA ∷ 0xAB ∷ [])) ∷
+      (requested 0x05 0 0xFF00 ⇒ excepts 12 0x85 0x04) ∷
+      (temperature_of true (pos 200) ⇒ silently 0) ∷
+      (requested 0x01 0 16 ⇒ gives 0x01 (0x02 ∷ 0x03 ∷ 0x00 ∷ [])) ∷
+      (temperature_of true (pos 199) ⇒ silently 0) ∷
+      (requested 0x01 0 16 ⇒ gives 0x01 (0x02 ∷ 0x00 ∷ 0xC0 ∷ [])) ∷
+      (temperature_of true (pos 300) ⇒ silently 0) ∷
+      (requested 0x01 0 16 ⇒ gives 0x01 (0x02 ∷ 0x03 ∷ 0x00 ∷ [])) ∷
+      (temperature_of true (pos 301) ⇒ silently 0) ∷
+      (requested 0x01 0 16 ⇒ gives 0x01 (0x02 ∷ 0x00 ∷ 0xC0 ∷ [])) ∷
+      (written 600 (169 ∷ 0xFFF6 ∷ 0xFFF6 ∷ 0xFF02 ∷ []) ⇒ echoes 0x10 600 4) ∷
+      (requested 0x03 600 4 ⇒ shows 0x03 (169 ∷ 0xFFF6 ∷ 0xFFF6 ∷ 0xFF02 ∷ [])) ∷
+      (temperature_of true (negsuc 9) ⇒ silently 0) ∷
+      (requested 0x01 0 1 ⇒ gives 0x01 (0x01 ∷ 0x00 ∷ [])) ∷
+      (temperature_of false (pos 0) ⇒ silently 0) ∷
+      (requested 0x01 0 1 ⇒ gives 0x01 (0x01 ∷ 0x01 ∷ [])) ∷
+      (temperature_of true (negsuc 10) ⇒ silently 0) ∷
+      (requested 0x01 0 1 ⇒ gives 0x01 (0x01 ∷ 0x01 ∷ [])) ∷
+      [])
+  -- 600 up (E6): 11 for SS 10 and 11, another sensor, TEMPx below TEMPy, ERR 3, a high byte; 8 and 9 come before
+  pub bands_not_written : Plays fresh_module (
+      (written 600 (145 ∷ 300 ∷ 200 ∷ 769 ∷ []) ⇒ echoes 0x10 600 4) ∷
+      (written 600 (201 ∷ 300 ∷ 200 ∷ 0 ∷ []) ⇒ excepts 11 0x90 0x03) ∷
+      (written 600 (201 ∷ 300 ∷ 200 ∷ 256 ∷ []) ⇒ excepts 11 0x90 0x03) ∷
+      (written 600 (201 ∷ 300 ∷ 200 ∷ 0xFF00 ∷ []) ⇒ excepts 11 0x90 0x03) ∷
+      (written 600 (217 ∷ 300 ∷ 200 ∷ 0 ∷ []) ⇒ excepts 11 0x90 0x03) ∷
+      (written 600 (217 ∷ 300 ∷ 200 ∷ 256 ∷ []) ⇒ excepts 11 0x90 0x03) ∷
+      (written 600 (217 ∷ 300 ∷ 200 ∷ 0xFF00 ∷ []) ⇒ excepts 11 0x90 0x03) ∷
+      (written 600 (233 ∷ 300 ∷ 200 ∷ 0 ∷ []) ⇒ excepts 11 0x90 0x03) ∷
+      (written 600 (233 ∷ 300 ∷ 200 ∷ 256 ∷ []) ⇒ excepts 11 0x90 0x03) ∷
+      (written 600 (233 ∷ 300 ∷ 200 ∷ 0xFF00 ∷ []) ⇒ excepts 11 0x90 0x03) ∷
+      (written 600 (249 ∷ 300 ∷ 200 ∷ 0 ∷ []) ⇒ excepts 11 0x90 0x03) ∷
+      (written 600 (249 ∷ 300 ∷ 200 ∷ 256 ∷ []) ⇒ excepts 11 0x90 0x03) ∷
+      (written 600 (249 ∷ 300 ∷ 200 ∷ 0xFF00 ∷ []) ⇒ excepts 11 0x90 0x03) ∷
+      (written 600 (136 ∷ 300 ∷ 200 ∷ 256 ∷ []) ⇒ excepts 11 0x90 0x03) ∷
+      (written 600 (138 ∷ 300 ∷ 200 ∷ 256 ∷ []) ⇒ excepts 11 0x90 0x03) ∷
+      (written 600 (139 ∷ 300 ∷ 200 ∷ 256 ∷ []) ⇒ excepts 11 0x90 0x03) ∷
+      (written 600 (141 ∷ 300 ∷ 200 ∷ 256 ∷ []) ⇒ excepts 11 0x90 0x03) ∷
+      (written 600 (143 ∷ 300 ∷ 200 ∷ 256 ∷ []) ⇒ excepts 11 0x90 0x03) ∷
+      (written 600 (168 ∷ 300 ∷ 200 ∷ 256 ∷ []) ⇒ excepts 11 0x90 0x03) ∷
+      (written 600 (170 ∷ 300 ∷ 200 ∷ 256 ∷ []) ⇒ excepts 11 0x90 0x03) ∷
+      (written 600 (175 ∷ 300 ∷ 200 ∷ 256 ∷ []) ⇒ excepts 11 0x90 0x03) ∷
+      (written 600 (128 ∷ 300 ∷ 200 ∷ 256 ∷ []) ⇒ excepts 11 0x90 0x03) ∷
+      (written 600 (130 ∷ 300 ∷ 200 ∷ 256 ∷ []) ⇒ excepts 11 0x90 0x03) ∷
+      (written 600 (131 ∷ 300 ∷ 200 ∷ 256 ∷ []) ⇒ excepts 11 0x90 0x03) ∷
+      (written 600 (133 ∷ 300 ∷ 200 ∷ 256 ∷ []) ⇒ excepts 11 0x90 0x03) ∷
+      (written 600 (135 ∷ 300 ∷ 200 ∷ 256 ∷ []) ⇒ excepts 11 0x90 0x03) ∷
+      (written 600 (200 ∷ 300 ∷ 200 ∷ 256 ∷ []) ⇒ excepts 11 0x90 0x03) ∷
+      (written 600 (393 ∷ 300 ∷ 200 ∷ 256 ∷ []) ⇒ excepts 11 0x90 0x03) ∷
+      (written 600 (0x0889 ∷ 300 ∷ 200 ∷ 256 ∷ []) ⇒ excepts 11 0x90 0x03) ∷
+      (written 600 (0x8089 ∷ 300 ∷ 200 ∷ 256 ∷ []) ⇒ excepts 11 0x90 0x03) ∷
+      (written 600 (425 ∷ 300 ∷ 200 ∷ 256 ∷ []) ⇒ excepts 11 0x90 0x03) ∷
+      (written 600 (265 ∷ 300 ∷ 200 ∷ 256 ∷ []) ⇒ excepts 11 0x90 0x03) ∷
+      (written 600 (0x080F ∷ 300 ∷ 200 ∷ 256 ∷ []) ⇒ excepts 11 0x90 0x03) ∷
+      (written 600 (0x0801 ∷ 300 ∷ 200 ∷ 256 ∷ []) ⇒ excepts 11 0x90 0x03) ∷
+      (written 600 (0xFF7F ∷ 300 ∷ 200 ∷ 256 ∷ []) ⇒ excepts 11 0x90 0x03) ∷
+      (written 600 (137 ∷ 200 ∷ 201 ∷ 0 ∷ []) ⇒ excepts 11 0x90 0x03) ∷
+      (written 600 (169 ∷ 0xFFFF ∷ 0 ∷ 0 ∷ []) ⇒ excepts 11 0x90 0x03) ∷
+      (written 600 (137 ∷ 300 ∷ 200 ∷ 3 ∷ []) ⇒ excepts 11 0x90 0x03) ∷
+      (written 600 (9 ∷ 300 ∷ 200 ∷ 3 ∷ []) ⇒ excepts 11 0x90 0x03) ∷
+      (sent 0x10 (0x02 ∷ 0x58 ∷ 0x00 ∷ 0x04 ∷ 0x07 ∷ 0x00 ∷ 0xC9 ∷ 0x01 ∷ 0x2C ∷ 0x00 ∷ 0xC8 ∷ 0x01 ∷ []) ⇒ excepts 8 0x90 0x03) ∷
+      (written 601 (201 ∷ 300 ∷ 200 ∷ 256 ∷ []) ⇒ excepts 9 0x90 0x02) ∷
+      (written 600 (201 ∷ 300 ∷ 200 ∷ []) ⇒ excepts 9 0x90 0x02) ∷
+      (requested 0x06 600 137 ⇒ excepts 9 0x86 0x02) ∷
+      (requested 0x03 600 4 ⇒ shows 0x03 (145 ∷ 300 ∷ 200 ∷ 769 ∷ [])) ∷
+      (asked 0x1B (0x01 ∷ []) ⇒ answers (0x01 ∷ 0x91 ∷ 0x01 ∷ 0x2C ∷ 0x00 ∷ 0xC8 ∷ 0x03 ∷ 0x01 ∷ [])) ∷
+      [])
+  -- 600 up with F = 0 (E6): the third S is stored beside any SS, sensor, limits and TIME, and shown; nothing turns
+  pub bands_written_idle : Plays fresh_module (
+      (written 604 (127 ∷ 0xFF38 ∷ 300 ∷ 2 ∷ []) ⇒ echoes 0x10 604 4) ∷
+      (requested 0x03 604 4 ⇒ shows 0x03 (127 ∷ 0xFF38 ∷ 300 ∷ 2 ∷ [])) ∷
+      (asked 0x1B (0x02 ∷ []) ⇒ answers (0x02 ∷ 0x7F ∷ 0xFF ∷ 0x38 ∷ 0x01 ∷ 0x2C ∷ 0x00 ∷ 0x02 ∷ [])) ∷
+      (written 604 (15 ∷ 0xFF38 ∷ 300 ∷ 2 ∷ []) ⇒ echoes 0x10 604 4) ∷
+      (requested 0x03 604 4 ⇒ shows 0x03 (15 ∷ 0xFF38 ∷ 300 ∷ 2 ∷ [])) ∷
+      (asked 0x1B (0x02 ∷ []) ⇒ answers (0x02 ∷ 0x0F ∷ 0xFF ∷ 0x38 ∷ 0x01 ∷ 0x2C ∷ 0x00 ∷ 0x02 ∷ [])) ∷
+      (written 604 (104 ∷ 0xFF38 ∷ 300 ∷ 2 ∷ []) ⇒ echoes 0x10 604 4) ∷
+      (requested 0x03 604 4 ⇒ shows 0x03 (104 ∷ 0xFF38 ∷ 300 ∷ 2 ∷ [])) ∷
+      (asked 0x1B (0x02 ∷ []) ⇒ answers (0x02 ∷ 0x68 ∷ 0xFF ∷ 0x38 ∷ 0x01 ∷ 0x2C ∷ 0x00 ∷ 0x02 ∷ [])) ∷
+      (written 604 (120 ∷ 0xFF38 ∷ 300 ∷ 2 ∷ []) ⇒ echoes 0x10 604 4) ∷
+      (requested 0x03 604 4 ⇒ shows 0x03 (120 ∷ 0xFF38 ∷ 300 ∷ 2 ∷ [])) ∷
+      (asked 0x1B (0x02 ∷ []) ⇒ answers (0x02 ∷ 0x78 ∷ 0xFF ∷ 0x38 ∷ 0x01 ∷ 0x2C ∷ 0x00 ∷ 0x02 ∷ [])) ∷
+      (written 604 (72 ∷ 0xFF38 ∷ 300 ∷ 2 ∷ []) ⇒ echoes 0x10 604 4) ∷
+      (requested 0x03 604 4 ⇒ shows 0x03 (72 ∷ 0xFF38 ∷ 300 ∷ 2 ∷ [])) ∷
+      (asked 0x1B (0x02 ∷ []) ⇒ answers (0x02 ∷ 0x48 ∷ 0xFF ∷ 0x38 ∷ 0x01 ∷ 0x2C ∷ 0x00 ∷ 0x02 ∷ [])) ∷
+      (written 604 (8 ∷ 0xFF38 ∷ 300 ∷ 2 ∷ []) ⇒ echoes 0x10 604 4) ∷
+      (requested 0x03 604 4 ⇒ shows 0x03 (8 ∷ 0xFF38 ∷ 300 ∷ 2 ∷ [])) ∷
+      (asked 0x1B (0x02 ∷ []) ⇒ answers (0x02 ∷ 0x08 ∷ 0xFF ∷ 0x38 ∷ 0x01 ∷ 0x2C ∷ 0x00 ∷ 0x02 ∷ [])) ∷
+      (written 604 (73 ∷ 0xFF38 ∷ 300 ∷ 2 ∷ []) ⇒ echoes 0x10 604 4) ∷
+      (requested 0x03 604 4 ⇒ shows 0x03 (73 ∷ 0xFF38 ∷ 300 ∷ 2 ∷ [])) ∷
+      (asked 0x1B (0x02 ∷ []) ⇒ answers (0x02 ∷ 0x49 ∷ 0xFF ∷ 0x38 ∷ 0x01 ∷ 0x2C ∷ 0x00 ∷ 0x02 ∷ [])) ∷
+      (written 604 (121 ∷ 0xFF38 ∷ 300 ∷ 2 ∷ []) ⇒ echoes 0x10 604 4) ∷
+      (requested 0x03 604 4 ⇒ shows 0x03 (121 ∷ 0xFF38 ∷ 300 ∷ 2 ∷ [])) ∷
+      (asked 0x1B (0x02 ∷ []) ⇒ answers (0x02 ∷ 0x79 ∷ 0xFF ∷ 0x38 ∷ 0x01 ∷ 0x2C ∷ 0x00 ∷ 0x02 ∷ [])) ∷
+      (asked 0x38 (0x02 ∷ []) ⇒ answers (0x00 ∷ [])) ∷
+      (temperature_of true (pos 250) ⇒ silently 0) ∷
+      (temperature_of false (pos 0) ⇒ silently 0) ∷
+      (requested 0x01 0 16 ⇒ gives 0x01 (0x02 ∷ 0x00 ∷ 0x00 ∷ [])) ∷
+      (requested 0x05 1 0xFF00 ⇒ echoes 0x05 1 0xFF00) ∷
+      (temperature_of true (pos 301) ⇒ silently 0) ∷
+      (requested 0x01 0 16 ⇒ gives 0x01 (0x02 ∷ 0x02 ∷ 0x00 ∷ [])) ∷
+      [])
+  -- 600 up: every SS and K with F = 1, with the third S and without; F = 0 with anything; a reset by register 1 keeps them
+  pub actions_written : Plays fresh_module (
+      (written 600 (137 ∷ 250 ∷ 250 ∷ 1 ∷ []) ⇒ echoes 0x10 600 4) ∷
+      (written 604 (153 ∷ 0xFF9C ∷ 0xFF38 ∷ 258 ∷ []) ⇒ echoes 0x10 604 4) ∷
+      (written 608 (169 ∷ 0xFF37 ∷ 0xFF37 ∷ 0xFF00 ∷ []) ⇒ echoes 0x10 608 4) ∷
+      (written 612 (185 ∷ 300 ∷ 200 ∷ 1 ∷ []) ⇒ echoes 0x10 612 4) ∷
+      (written 616 (129 ∷ 250 ∷ 250 ∷ 258 ∷ []) ⇒ echoes 0x10 616 4) ∷
+      (written 620 (145 ∷ 0xFF9C ∷ 0xFF38 ∷ 0 ∷ []) ⇒ echoes 0x10 620 4) ∷
+      (written 624 (161 ∷ 0xFF37 ∷ 0xFF37 ∷ 1 ∷ []) ⇒ echoes 0x10 624 4) ∷
+      (written 628 (177 ∷ 300 ∷ 200 ∷ 0xFF02 ∷ []) ⇒ echoes 0x10 628 4) ∷
+      (written 632 (137 ∷ 250 ∷ 250 ∷ 0 ∷ []) ⇒ echoes 0x10 632 4) ∷
+      (written 636 (153 ∷ 0xFF9C ∷ 0xFF38 ∷ 257 ∷ []) ⇒ echoes 0x10 636 4) ∷
+      (written 640 (169 ∷ 0xFF37 ∷ 0xFF37 ∷ 0xFF02 ∷ []) ⇒ echoes 0x10 640 4) ∷
+      (written 644 (185 ∷ 300 ∷ 200 ∷ 0 ∷ []) ⇒ echoes 0x10 644 4) ∷
+      (written 648 (129 ∷ 250 ∷ 250 ∷ 257 ∷ []) ⇒ echoes 0x10 648 4) ∷
+      (written 652 (145 ∷ 0xFF9C ∷ 0xFF38 ∷ 2 ∷ []) ⇒ echoes 0x10 652 4) ∷
+      (written 656 (161 ∷ 0xFF37 ∷ 0xFF37 ∷ 0 ∷ []) ⇒ echoes 0x10 656 4) ∷
+      (written 660 (177 ∷ 300 ∷ 200 ∷ 0xFF01 ∷ []) ⇒ echoes 0x10 660 4) ∷
+      (asked 0x1B [] ⇒ answers (0x01 ∷ 0x89 ∷ 0x00 ∷ 0xFA ∷ 0x00 ∷ 0xFA ∷ 0x00 ∷ 0x01 ∷ 0x02 ∷ 0x99 ∷ 0xFF ∷ 0x9C ∷ 0xFF ∷
+      0x38 ∷ 0x01 ∷ 0x02 ∷ 0x03 ∷ 0xA9 ∷ 0xFF ∷ 0x37 ∷ 0xFF ∷ 0x37 ∷ 0xFF ∷ 0x00 ∷ 0x04 ∷ 0xB9 ∷
+      0x01 ∷ 0x2C ∷ 0x00 ∷ 0xC8 ∷ 0x00 ∷ 0x01 ∷ 0x05 ∷ 0x81 ∷ 0x00 ∷ 0xFA ∷ 0x00 ∷ 0xFA ∷ 0x01 ∷
+      0x02 ∷ 0x06 ∷ 0x91 ∷ 0xFF ∷ 0x9C ∷ 0xFF ∷ 0x38 ∷ 0x00 ∷ 0x00 ∷ 0x07 ∷ 0xA1 ∷ 0xFF ∷ 0x37 ∷
+      0xFF ∷ 0x37 ∷ 0x00 ∷ 0x01 ∷ 0x08 ∷ 0xB1 ∷ 0x01 ∷ 0x2C ∷ 0x00 ∷ 0xC8 ∷ 0xFF ∷ 0x02 ∷ 0x09 ∷
+      0x89 ∷ 0x00 ∷ 0xFA ∷ 0x00 ∷ 0xFA ∷ 0x00 ∷ 0x00 ∷ 0x0A ∷ 0x99 ∷ 0xFF ∷ 0x9C ∷ 0xFF ∷ 0x38 ∷
+      0x01 ∷ 0x01 ∷ 0x0B ∷ 0xA9 ∷ 0xFF ∷ 0x37 ∷ 0xFF ∷ 0x37 ∷ 0xFF ∷ 0x02 ∷ 0x0C ∷ 0xB9 ∷ 0x01 ∷
+      0x2C ∷ 0x00 ∷ 0xC8 ∷ 0x00 ∷ 0x00 ∷ 0x0D ∷ 0x81 ∷ 0x00 ∷ 0xFA ∷ 0x00 ∷ 0xFA ∷ 0x01 ∷ 0x01 ∷
+      0x0E ∷ 0x91 ∷ 0xFF ∷ 0x9C ∷ 0xFF ∷ 0x38 ∷ 0x00 ∷ 0x02 ∷ 0x0F ∷ 0xA1 ∷ 0xFF ∷ 0x37 ∷ 0xFF ∷
+      0x37 ∷ 0x00 ∷ 0x00 ∷ 0x10 ∷ 0xB1 ∷ 0x01 ∷ 0x2C ∷ 0x00 ∷ 0xC8 ∷ 0xFF ∷ 0x01 ∷ [])) ∷
+      (written 600 (193 ∷ 0xFF9C ∷ 0xFF38 ∷ 513 ∷ []) ⇒ echoes 0x10 600 4) ∷
+      (written 604 (209 ∷ 0xFF37 ∷ 0xFF37 ∷ 770 ∷ []) ⇒ echoes 0x10 604 4) ∷
+      (written 608 (225 ∷ 300 ∷ 200 ∷ 0x0400 ∷ []) ⇒ echoes 0x10 608 4) ∷
+      (written 612 (241 ∷ 250 ∷ 250 ∷ 0x0501 ∷ []) ⇒ echoes 0x10 612 4) ∷
+      (written 616 (95 ∷ 5 ∷ 5 ∷ 0xFF02 ∷ []) ⇒ echoes 0x10 616 4) ∷
+      (written 620 (114 ∷ 0xFF38 ∷ 0xFF9C ∷ 0 ∷ []) ⇒ echoes 0x10 620 4) ∷
+      (written 624 (5 ∷ 300 ∷ 200 ∷ 256 ∷ []) ⇒ echoes 0x10 624 4) ∷
+      (written 628 (24 ∷ 200 ∷ 300 ∷ 0xFF01 ∷ []) ⇒ echoes 0x10 628 4) ∷
+      (written 632 (43 ∷ 5 ∷ 5 ∷ 1 ∷ []) ⇒ echoes 0x10 632 4) ∷
+      (written 636 (62 ∷ 0xFF38 ∷ 0xFF9C ∷ 258 ∷ []) ⇒ echoes 0x10 636 4) ∷
+      (written 640 (81 ∷ 300 ∷ 200 ∷ 0xFF02 ∷ []) ⇒ echoes 0x10 640 4) ∷
+      (written 644 (100 ∷ 200 ∷ 300 ∷ 0 ∷ []) ⇒ echoes 0x10 644 4) ∷
+      (written 648 (119 ∷ 5 ∷ 5 ∷ 256 ∷ []) ⇒ echoes 0x10 648 4) ∷
+      (written 652 (10 ∷ 0xFF38 ∷ 0xFF9C ∷ 0xFF01 ∷ []) ⇒ echoes 0x10 652 4) ∷
+      (written 656 (29 ∷ 300 ∷ 200 ∷ 1 ∷ []) ⇒ echoes 0x10 656 4) ∷
+      (written 660 (48 ∷ 200 ∷ 300 ∷ 258 ∷ []) ⇒ echoes 0x10 660 4) ∷
+      (asked 0x1B [] ⇒ answers (0x01 ∷ 0xC1 ∷ 0xFF ∷ 0x9C ∷ 0xFF ∷ 0x38 ∷ 0x02 ∷ 0x01 ∷ 0x02 ∷ 0xD1 ∷ 0xFF ∷ 0x37 ∷ 0xFF ∷
+      0x37 ∷ 0x03 ∷ 0x02 ∷ 0x03 ∷ 0xE1 ∷ 0x01 ∷ 0x2C ∷ 0x00 ∷ 0xC8 ∷ 0x04 ∷ 0x00 ∷ 0x04 ∷ 0xF1 ∷
+      0x00 ∷ 0xFA ∷ 0x00 ∷ 0xFA ∷ 0x05 ∷ 0x01 ∷ 0x05 ∷ 0x5F ∷ 0x00 ∷ 0x05 ∷ 0x00 ∷ 0x05 ∷ 0xFF ∷
+      0x02 ∷ 0x06 ∷ 0x72 ∷ 0xFF ∷ 0x38 ∷ 0xFF ∷ 0x9C ∷ 0x00 ∷ 0x00 ∷ 0x07 ∷ 0x05 ∷ 0x01 ∷ 0x2C ∷
+      0x00 ∷ 0xC8 ∷ 0x01 ∷ 0x00 ∷ 0x08 ∷ 0x18 ∷ 0x00 ∷ 0xC8 ∷ 0x01 ∷ 0x2C ∷ 0xFF ∷ 0x01 ∷ 0x09 ∷
+      0x2B ∷ 0x00 ∷ 0x05 ∷ 0x00 ∷ 0x05 ∷ 0x00 ∷ 0x01 ∷ 0x0A ∷ 0x3E ∷ 0xFF ∷ 0x38 ∷ 0xFF ∷ 0x9C ∷
+      0x01 ∷ 0x02 ∷ 0x0B ∷ 0x51 ∷ 0x01 ∷ 0x2C ∷ 0x00 ∷ 0xC8 ∷ 0xFF ∷ 0x02 ∷ 0x0C ∷ 0x64 ∷ 0x00 ∷
+      0xC8 ∷ 0x01 ∷ 0x2C ∷ 0x00 ∷ 0x00 ∷ 0x0D ∷ 0x77 ∷ 0x00 ∷ 0x05 ∷ 0x00 ∷ 0x05 ∷ 0x01 ∷ 0x00 ∷
+      0x0E ∷ 0x0A ∷ 0xFF ∷ 0x38 ∷ 0xFF ∷ 0x9C ∷ 0xFF ∷ 0x01 ∷ 0x0F ∷ 0x1D ∷ 0x01 ∷ 0x2C ∷ 0x00 ∷
+      0xC8 ∷ 0x00 ∷ 0x01 ∷ 0x10 ∷ 0x30 ∷ 0x00 ∷ 0xC8 ∷ 0x01 ∷ 0x2C ∷ 0x01 ∷ 0x02 ∷ [])) ∷
+      (requested 0x06 0 255 ⇒ echoes 0x06 0 255) ∷
+      (requested 0x06 1 49 ⇒ echoes 0x06 1 49) ∷
+      (asked 0x1B [] ⇒ answers (0x01 ∷ 0xC1 ∷ 0xFF ∷ 0x9C ∷ 0xFF ∷ 0x38 ∷ 0x02 ∷ 0x01 ∷ 0x02 ∷ 0xD1 ∷ 0xFF ∷ 0x37 ∷ 0xFF ∷
+      0x37 ∷ 0x03 ∷ 0x02 ∷ 0x03 ∷ 0xE1 ∷ 0x01 ∷ 0x2C ∷ 0x00 ∷ 0xC8 ∷ 0x04 ∷ 0x00 ∷ 0x04 ∷ 0xF1 ∷
+      0x00 ∷ 0xFA ∷ 0x00 ∷ 0xFA ∷ 0x05 ∷ 0x01 ∷ 0x05 ∷ 0x5F ∷ 0x00 ∷ 0x05 ∷ 0x00 ∷ 0x05 ∷ 0xFF ∷
+      0x02 ∷ 0x06 ∷ 0x72 ∷ 0xFF ∷ 0x38 ∷ 0xFF ∷ 0x9C ∷ 0x00 ∷ 0x00 ∷ 0x07 ∷ 0x05 ∷ 0x01 ∷ 0x2C ∷
+      0x00 ∷ 0xC8 ∷ 0x01 ∷ 0x00 ∷ 0x08 ∷ 0x18 ∷ 0x00 ∷ 0xC8 ∷ 0x01 ∷ 0x2C ∷ 0xFF ∷ 0x01 ∷ 0x09 ∷
+      0x2B ∷ 0x00 ∷ 0x05 ∷ 0x00 ∷ 0x05 ∷ 0x00 ∷ 0x01 ∷ 0x0A ∷ 0x3E ∷ 0xFF ∷ 0x38 ∷ 0xFF ∷ 0x9C ∷
+      0x01 ∷ 0x02 ∷ 0x0B ∷ 0x51 ∷ 0x01 ∷ 0x2C ∷ 0x00 ∷ 0xC8 ∷ 0xFF ∷ 0x02 ∷ 0x0C ∷ 0x64 ∷ 0x00 ∷
+      0xC8 ∷ 0x01 ∷ 0x2C ∷ 0x00 ∷ 0x00 ∷ 0x0D ∷ 0x77 ∷ 0x00 ∷ 0x05 ∷ 0x00 ∷ 0x05 ∷ 0x01 ∷ 0x00 ∷
+      0x0E ∷ 0x0A ∷ 0xFF ∷ 0x38 ∷ 0xFF ∷ 0x9C ∷ 0xFF ∷ 0x01 ∷ 0x0F ∷ 0x1D ∷ 0x01 ∷ 0x2C ∷ 0x00 ∷
+      0xC8 ∷ 0x00 ∷ 0x01 ∷ 0x10 ∷ 0x30 ∷ 0x00 ∷ 0xC8 ∷ 0x01 ∷ 0x2C ∷ 0x01 ∷ 0x02 ∷ [])) ∷
+      (written 600 (46 ∷ 200 ∷ 300 ∷ 257 ∷ []) ⇒ echoes 0x10 600 4) ∷
+      (written 604 (83 ∷ 200 ∷ 300 ∷ 0xFF02 ∷ []) ⇒ echoes 0x10 604 4) ∷
+      (written 608 (120 ∷ 200 ∷ 300 ∷ 0 ∷ []) ⇒ echoes 0x10 608 4) ∷
+      (written 612 (29 ∷ 5 ∷ 5 ∷ 257 ∷ []) ⇒ echoes 0x10 612 4) ∷
+      (written 616 (66 ∷ 5 ∷ 5 ∷ 0xFF02 ∷ []) ⇒ echoes 0x10 616 4) ∷
+      (written 620 (103 ∷ 5 ∷ 5 ∷ 0 ∷ []) ⇒ echoes 0x10 620 4) ∷
+      (written 624 (12 ∷ 5 ∷ 5 ∷ 257 ∷ []) ⇒ echoes 0x10 624 4) ∷
+      (written 628 (49 ∷ 0xFF38 ∷ 0xFF9C ∷ 0xFF02 ∷ []) ⇒ echoes 0x10 628 4) ∷
+      (written 632 (86 ∷ 0xFF38 ∷ 0xFF9C ∷ 0 ∷ []) ⇒ echoes 0x10 632 4) ∷
+      (written 636 (123 ∷ 0xFF38 ∷ 0xFF9C ∷ 257 ∷ []) ⇒ echoes 0x10 636 4) ∷
+      (written 640 (32 ∷ 0xFF38 ∷ 0xFF9C ∷ 0xFF02 ∷ []) ⇒ echoes 0x10 640 4) ∷
+      (written 644 (69 ∷ 300 ∷ 200 ∷ 0 ∷ []) ⇒ echoes 0x10 644 4) ∷
+      (written 648 (106 ∷ 300 ∷ 200 ∷ 257 ∷ []) ⇒ echoes 0x10 648 4) ∷
+      (written 652 (15 ∷ 300 ∷ 200 ∷ 0xFF02 ∷ []) ⇒ echoes 0x10 652 4) ∷
+      (written 656 (52 ∷ 300 ∷ 200 ∷ 0 ∷ []) ⇒ echoes 0x10 656 4) ∷
+      (written 660 (89 ∷ 200 ∷ 300 ∷ 257 ∷ []) ⇒ echoes 0x10 660 4) ∷
+      (asked 0x1B [] ⇒ answers (0x01 ∷ 0x2E ∷ 0x00 ∷ 0xC8 ∷ 0x01 ∷ 0x2C ∷ 0x01 ∷ 0x01 ∷ 0x02 ∷ 0x53 ∷ 0x00 ∷ 0xC8 ∷ 0x01 ∷
+      0x2C ∷ 0xFF ∷ 0x02 ∷ 0x03 ∷ 0x78 ∷ 0x00 ∷ 0xC8 ∷ 0x01 ∷ 0x2C ∷ 0x00 ∷ 0x00 ∷ 0x04 ∷ 0x1D ∷
+      0x00 ∷ 0x05 ∷ 0x00 ∷ 0x05 ∷ 0x01 ∷ 0x01 ∷ 0x05 ∷ 0x42 ∷ 0x00 ∷ 0x05 ∷ 0x00 ∷ 0x05 ∷ 0xFF ∷
+      0x02 ∷ 0x06 ∷ 0x67 ∷ 0x00 ∷ 0x05 ∷ 0x00 ∷ 0x05 ∷ 0x00 ∷ 0x00 ∷ 0x07 ∷ 0x0C ∷ 0x00 ∷ 0x05 ∷
+      0x00 ∷ 0x05 ∷ 0x01 ∷ 0x01 ∷ 0x08 ∷ 0x31 ∷ 0xFF ∷ 0x38 ∷ 0xFF ∷ 0x9C ∷ 0xFF ∷ 0x02 ∷ 0x09 ∷
+      0x56 ∷ 0xFF ∷ 0x38 ∷ 0xFF ∷ 0x9C ∷ 0x00 ∷ 0x00 ∷ 0x0A ∷ 0x7B ∷ 0xFF ∷ 0x38 ∷ 0xFF ∷ 0x9C ∷
+      0x01 ∷ 0x01 ∷ 0x0B ∷ 0x20 ∷ 0xFF ∷ 0x38 ∷ 0xFF ∷ 0x9C ∷ 0xFF ∷ 0x02 ∷ 0x0C ∷ 0x45 ∷ 0x01 ∷
+      0x2C ∷ 0x00 ∷ 0xC8 ∷ 0x00 ∷ 0x00 ∷ 0x0D ∷ 0x6A ∷ 0x01 ∷ 0x2C ∷ 0x00 ∷ 0xC8 ∷ 0x01 ∷ 0x01 ∷
+      0x0E ∷ 0x0F ∷ 0x01 ∷ 0x2C ∷ 0x00 ∷ 0xC8 ∷ 0xFF ∷ 0x02 ∷ 0x0F ∷ 0x34 ∷ 0x01 ∷ 0x2C ∷ 0x00 ∷
+      0xC8 ∷ 0x00 ∷ 0x00 ∷ 0x10 ∷ 0x59 ∷ 0x00 ∷ 0xC8 ∷ 0x01 ∷ 0x2C ∷ 0x01 ∷ 0x01 ∷ [])) ∷
+      [])
+  -- 600 up: each reason of 11 beside each ERR, several limits and TIMEs
+  pub actions_not_written : Plays fresh_module (
+      (written 600 (201 ∷ 300 ∷ 200 ∷ 256 ∷ []) ⇒ excepts 11 0x90 0x03) ∷
+      (written 600 (233 ∷ 0xFF9C ∷ 0xFF38 ∷ 0 ∷ []) ⇒ excepts 11 0x90 0x03) ∷
+      (written 600 (136 ∷ 300 ∷ 200 ∷ 0xFF00 ∷ []) ⇒ excepts 11 0x90 0x03) ∷
+      (written 600 (171 ∷ 0xFF9C ∷ 0xFF38 ∷ 256 ∷ []) ⇒ excepts 11 0x90 0x03) ∷
+      (written 600 (140 ∷ 300 ∷ 200 ∷ 0 ∷ []) ⇒ excepts 11 0x90 0x03) ∷
+      (written 600 (128 ∷ 0xFF9C ∷ 0xFF38 ∷ 0xFF00 ∷ []) ⇒ excepts 11 0x90 0x03) ∷
+      (written 600 (163 ∷ 300 ∷ 200 ∷ 256 ∷ []) ⇒ excepts 11 0x90 0x03) ∷
+      (written 600 (199 ∷ 0xFF9C ∷ 0xFF38 ∷ 0 ∷ []) ⇒ excepts 11 0x90 0x03) ∷
+      (written 600 (228 ∷ 300 ∷ 200 ∷ 0xFF00 ∷ []) ⇒ excepts 11 0x90 0x03) ∷
+      (written 600 (201 ∷ 250 ∷ 250 ∷ 0xFF01 ∷ []) ⇒ excepts 11 0x90 0x03) ∷
+      (written 600 (233 ∷ 0xFF37 ∷ 0xFF37 ∷ 257 ∷ []) ⇒ excepts 11 0x90 0x03) ∷
+      (written 600 (136 ∷ 250 ∷ 250 ∷ 1 ∷ []) ⇒ excepts 11 0x90 0x03) ∷
+      (written 600 (171 ∷ 0xFF37 ∷ 0xFF37 ∷ 0xFF01 ∷ []) ⇒ excepts 11 0x90 0x03) ∷
+      (written 600 (140 ∷ 250 ∷ 250 ∷ 257 ∷ []) ⇒ excepts 11 0x90 0x03) ∷
+      (written 600 (128 ∷ 0xFF37 ∷ 0xFF37 ∷ 1 ∷ []) ⇒ excepts 11 0x90 0x03) ∷
+      (written 600 (163 ∷ 250 ∷ 250 ∷ 0xFF01 ∷ []) ⇒ excepts 11 0x90 0x03) ∷
+      (written 600 (199 ∷ 0xFF37 ∷ 0xFF37 ∷ 257 ∷ []) ⇒ excepts 11 0x90 0x03) ∷
+      (written 600 (228 ∷ 250 ∷ 250 ∷ 1 ∷ []) ⇒ excepts 11 0x90 0x03) ∷
+      (written 600 (201 ∷ 0xFF9C ∷ 0xFF38 ∷ 2 ∷ []) ⇒ excepts 11 0x90 0x03) ∷
+      (written 600 (233 ∷ 300 ∷ 200 ∷ 0xFF02 ∷ []) ⇒ excepts 11 0x90 0x03) ∷
+      (written 600 (136 ∷ 0xFF9C ∷ 0xFF38 ∷ 258 ∷ []) ⇒ excepts 11 0x90 0x03) ∷
+      (written 600 (171 ∷ 300 ∷ 200 ∷ 2 ∷ []) ⇒ excepts 11 0x90 0x03) ∷
+      (written 600 (140 ∷ 0xFF9C ∷ 0xFF38 ∷ 0xFF02 ∷ []) ⇒ excepts 11 0x90 0x03) ∷
+      (written 600 (128 ∷ 300 ∷ 200 ∷ 258 ∷ []) ⇒ excepts 11 0x90 0x03) ∷
+      (written 600 (163 ∷ 0xFF9C ∷ 0xFF38 ∷ 2 ∷ []) ⇒ excepts 11 0x90 0x03) ∷
+      (written 600 (199 ∷ 300 ∷ 200 ∷ 0xFF02 ∷ []) ⇒ excepts 11 0x90 0x03) ∷
+      (written 600 (228 ∷ 0xFF9C ∷ 0xFF38 ∷ 258 ∷ []) ⇒ excepts 11 0x90 0x03) ∷
+      (written 600 (153 ∷ 200 ∷ 201 ∷ 1 ∷ []) ⇒ excepts 11 0x90 0x03) ∷
+      (written 600 (185 ∷ 200 ∷ 201 ∷ 513 ∷ []) ⇒ excepts 11 0x90 0x03) ∷
+      (written 600 (161 ∷ 200 ∷ 201 ∷ 1 ∷ []) ⇒ excepts 11 0x90 0x03) ∷
+      (written 600 (193 ∷ 200 ∷ 201 ∷ 257 ∷ []) ⇒ excepts 11 0x90 0x03) ∷
+      (written 600 (153 ∷ 0xFF37 ∷ 0xFF38 ∷ 2 ∷ []) ⇒ excepts 11 0x90 0x03) ∷
+      (written 600 (185 ∷ 0xFF37 ∷ 0xFF38 ∷ 514 ∷ []) ⇒ excepts 11 0x90 0x03) ∷
+      (written 600 (161 ∷ 0xFF37 ∷ 0xFF38 ∷ 2 ∷ []) ⇒ excepts 11 0x90 0x03) ∷
+      (written 600 (193 ∷ 0xFF37 ∷ 0xFF38 ∷ 258 ∷ []) ⇒ excepts 11 0x90 0x03) ∷
+      (written 600 (153 ∷ 0xFFFF ∷ 0 ∷ 0 ∷ []) ⇒ excepts 11 0x90 0x03) ∷
+      (written 600 (185 ∷ 0xFFFF ∷ 0 ∷ 512 ∷ []) ⇒ excepts 11 0x90 0x03) ∷
+      (written 600 (161 ∷ 0xFFFF ∷ 0 ∷ 0 ∷ []) ⇒ excepts 11 0x90 0x03) ∷
+      (written 600 (193 ∷ 0xFFFF ∷ 0 ∷ 256 ∷ []) ⇒ excepts 11 0x90 0x03) ∷
+      (written 600 (193 ∷ 300 ∷ 200 ∷ 0 ∷ []) ⇒ excepts 11 0x90 0x03) ∷
+      (written 600 (225 ∷ 0xFF9C ∷ 0xFF38 ∷ 0 ∷ []) ⇒ excepts 11 0x90 0x03) ∷
+      (written 600 (193 ∷ 250 ∷ 250 ∷ 1 ∷ []) ⇒ excepts 11 0x90 0x03) ∷
+      (written 600 (225 ∷ 0xFF37 ∷ 0xFF37 ∷ 1 ∷ []) ⇒ excepts 11 0x90 0x03) ∷
+      (written 600 (193 ∷ 0xFF9C ∷ 0xFF38 ∷ 2 ∷ []) ⇒ excepts 11 0x90 0x03) ∷
+      (written 600 (225 ∷ 300 ∷ 200 ∷ 2 ∷ []) ⇒ excepts 11 0x90 0x03) ∷
+      (written 600 (128 ∷ 200 ∷ 300 ∷ 3 ∷ []) ⇒ excepts 11 0x90 0x03) ∷
+      (written 600 (22 ∷ 0xFF38 ∷ 0xFF9C ∷ 0xFFFF ∷ []) ⇒ excepts 11 0x90 0x03) ∷
+      (written 600 (44 ∷ 200 ∷ 300 ∷ 260 ∷ []) ⇒ excepts 11 0x90 0x03) ∷
+      (written 600 (66 ∷ 0xFF38 ∷ 0xFF9C ∷ 3 ∷ []) ⇒ excepts 11 0x90 0x03) ∷
+      (written 600 (88 ∷ 200 ∷ 300 ∷ 0xFFFF ∷ []) ⇒ excepts 11 0x90 0x03) ∷
+      (written 600 (238 ∷ 0xFF38 ∷ 0xFF9C ∷ 260 ∷ []) ⇒ excepts 11 0x90 0x03) ∷
+      (written 600 (4 ∷ 200 ∷ 300 ∷ 3 ∷ []) ⇒ excepts 11 0x90 0x03) ∷
+      (written 600 (26 ∷ 0xFF38 ∷ 0xFF9C ∷ 0xFFFF ∷ []) ⇒ excepts 11 0x90 0x03) ∷
+      (written 600 (48 ∷ 200 ∷ 300 ∷ 260 ∷ []) ⇒ excepts 11 0x90 0x03) ∷
+      (written 600 (70 ∷ 0xFF38 ∷ 0xFF9C ∷ 3 ∷ []) ⇒ excepts 11 0x90 0x03) ∷
+      (written 600 (220 ∷ 200 ∷ 300 ∷ 0xFFFF ∷ []) ⇒ excepts 11 0x90 0x03) ∷
+      (written 600 (114 ∷ 0xFF38 ∷ 0xFF9C ∷ 260 ∷ []) ⇒ excepts 11 0x90 0x03) ∷
+      (written 600 (217 ∷ 250 ∷ 250 ∷ 0xFF00 ∷ []) ⇒ excepts 11 0x90 0x03) ∷
+      (written 600 (157 ∷ 250 ∷ 250 ∷ 0 ∷ []) ⇒ excepts 11 0x90 0x03) ∷
+      (written 600 (174 ∷ 250 ∷ 250 ∷ 256 ∷ []) ⇒ excepts 11 0x90 0x03) ∷
+      (written 600 (182 ∷ 250 ∷ 250 ∷ 0xFF00 ∷ []) ⇒ excepts 11 0x90 0x03) ∷
+      (written 600 (240 ∷ 250 ∷ 250 ∷ 0 ∷ []) ⇒ excepts 11 0x90 0x03) ∷
+      (written 600 (249 ∷ 300 ∷ 200 ∷ 0xFF01 ∷ []) ⇒ excepts 11 0x90 0x03) ∷
+      (written 600 (191 ∷ 300 ∷ 200 ∷ 1 ∷ []) ⇒ excepts 11 0x90 0x03) ∷
+      (written 600 (149 ∷ 300 ∷ 200 ∷ 257 ∷ []) ⇒ excepts 11 0x90 0x03) ∷
+      (written 600 (210 ∷ 300 ∷ 200 ∷ 0xFF01 ∷ []) ⇒ excepts 11 0x90 0x03) ∷
+      (asked 0x1B (0x01 ∷ []) ⇒ answers (0x01 ∷ 0x00 ∷ 0x00 ∷ 0x00 ∷ 0x00 ∷ 0x00 ∷ 0x00 ∷ 0x00 ∷ [])) ∷
+      [])
+  -- 600 up with the third S (E6) turns nothing and ends no pulse: before a reading, beyond the band, at a fault, within
+  pub bands_written_quiet : Plays fresh_module (
+      (written 616 (25 ∷ 300 ∷ 200 ∷ 0 ∷ []) ⇒ echoes 0x10 616 4) ∷
+      (written 620 (41 ∷ 300 ∷ 200 ∷ 0 ∷ []) ⇒ echoes 0x10 620 4) ∷
+      (written 624 (57 ∷ 300 ∷ 200 ∷ 0 ∷ []) ⇒ echoes 0x10 624 4) ∷
+      (written 628 (9 ∷ 300 ∷ 200 ∷ 0 ∷ []) ⇒ echoes 0x10 628 4) ∷
+      (asked 0x23 (0x02 ∷ 0x85 ∷ 0x06 ∷ 0x07 ∷ 0x88 ∷ []) ⇒ answers []) ∷
+      (written 616 (153 ∷ 300 ∷ 200 ∷ 257 ∷ []) ⇒ echoes 0x10 616 4) ∷
+      (written 620 (169 ∷ 300 ∷ 200 ∷ 2 ∷ []) ⇒ echoes 0x10 620 4) ∷
+      (written 624 (185 ∷ 300 ∷ 200 ∷ 257 ∷ []) ⇒ echoes 0x10 624 4) ∷
+      (written 628 (137 ∷ 300 ∷ 200 ∷ 2 ∷ []) ⇒ echoes 0x10 628 4) ∷
+      (asked 0x33 (0x05 ∷ 0x06 ∷ 0x07 ∷ 0x08 ∷ []) ⇒ answers (0x85 ∷ 0x02 ∷ 0x06 ∷ 0x02 ∷ 0x07 ∷ 0x02 ∷ 0x88 ∷ 0x02 ∷ [])) ∷
+      (temperature_of true (pos 301) ⇒ silently 0) ∷
+      (written 616 (25 ∷ 300 ∷ 200 ∷ 0 ∷ []) ⇒ echoes 0x10 616 4) ∷
+      (written 620 (41 ∷ 300 ∷ 200 ∷ 0 ∷ []) ⇒ echoes 0x10 620 4) ∷
+      (written 624 (57 ∷ 300 ∷ 200 ∷ 0 ∷ []) ⇒ echoes 0x10 624 4) ∷
+      (written 628 (9 ∷ 300 ∷ 200 ∷ 0 ∷ []) ⇒ echoes 0x10 628 4) ∷
+      (asked 0x23 (0x02 ∷ 0x85 ∷ 0x06 ∷ 0x07 ∷ 0x88 ∷ []) ⇒ answers []) ∷
+      (written 616 (153 ∷ 300 ∷ 200 ∷ 257 ∷ []) ⇒ echoes 0x10 616 4) ∷
+      (written 620 (169 ∷ 300 ∷ 200 ∷ 2 ∷ []) ⇒ echoes 0x10 620 4) ∷
+      (written 624 (185 ∷ 300 ∷ 200 ∷ 257 ∷ []) ⇒ echoes 0x10 624 4) ∷
+      (written 628 (137 ∷ 300 ∷ 200 ∷ 2 ∷ []) ⇒ echoes 0x10 628 4) ∷
+      (asked 0x33 (0x05 ∷ 0x06 ∷ 0x07 ∷ 0x08 ∷ []) ⇒ answers (0x85 ∷ 0x02 ∷ 0x06 ∷ 0x02 ∷ 0x07 ∷ 0x02 ∷ 0x88 ∷ 0x02 ∷ [])) ∷
+      (temperature_of false (pos 0) ⇒ silently 0) ∷
+      (written 616 (25 ∷ 300 ∷ 200 ∷ 0 ∷ []) ⇒ echoes 0x10 616 4) ∷
+      (written 620 (41 ∷ 300 ∷ 200 ∷ 0 ∷ []) ⇒ echoes 0x10 620 4) ∷
+      (written 624 (57 ∷ 300 ∷ 200 ∷ 0 ∷ []) ⇒ echoes 0x10 624 4) ∷
+      (written 628 (9 ∷ 300 ∷ 200 ∷ 0 ∷ []) ⇒ echoes 0x10 628 4) ∷
+      (asked 0x23 (0x02 ∷ 0x85 ∷ 0x06 ∷ 0x07 ∷ 0x88 ∷ []) ⇒ answers []) ∷
+      (written 616 (153 ∷ 300 ∷ 200 ∷ 257 ∷ []) ⇒ echoes 0x10 616 4) ∷
+      (written 620 (169 ∷ 300 ∷ 200 ∷ 2 ∷ []) ⇒ echoes 0x10 620 4) ∷
+      (written 624 (185 ∷ 300 ∷ 200 ∷ 257 ∷ []) ⇒ echoes 0x10 624 4) ∷
+      (written 628 (137 ∷ 300 ∷ 200 ∷ 2 ∷ []) ⇒ echoes 0x10 628 4) ∷
+      (asked 0x33 (0x05 ∷ 0x06 ∷ 0x07 ∷ 0x08 ∷ []) ⇒ answers (0x85 ∷ 0x02 ∷ 0x06 ∷ 0x02 ∷ 0x07 ∷ 0x02 ∷ 0x88 ∷ 0x02 ∷ [])) ∷
+      (temperature_of true (pos 250) ⇒ silently 0) ∷
+      (written 616 (25 ∷ 300 ∷ 200 ∷ 0 ∷ []) ⇒ echoes 0x10 616 4) ∷
+      (written 620 (41 ∷ 300 ∷ 200 ∷ 0 ∷ []) ⇒ echoes 0x10 620 4) ∷
+      (written 624 (57 ∷ 300 ∷ 200 ∷ 0 ∷ []) ⇒ echoes 0x10 624 4) ∷
+      (written 628 (9 ∷ 300 ∷ 200 ∷ 0 ∷ []) ⇒ echoes 0x10 628 4) ∷
+      (asked 0x23 (0x02 ∷ 0x85 ∷ 0x06 ∷ 0x07 ∷ 0x88 ∷ []) ⇒ answers []) ∷
+      (written 616 (153 ∷ 300 ∷ 200 ∷ 257 ∷ []) ⇒ echoes 0x10 616 4) ∷
+      (written 620 (169 ∷ 300 ∷ 200 ∷ 2 ∷ []) ⇒ echoes 0x10 620 4) ∷
+      (written 624 (185 ∷ 300 ∷ 200 ∷ 257 ∷ []) ⇒ echoes 0x10 624 4) ∷
+      (written 628 (137 ∷ 300 ∷ 200 ∷ 2 ∷ []) ⇒ echoes 0x10 628 4) ∷
+      (asked 0x33 (0x05 ∷ 0x06 ∷ 0x07 ∷ 0x08 ∷ []) ⇒ answers (0x85 ∷ 0x02 ∷ 0x06 ∷ 0x02 ∷ 0x07 ∷ 0x02 ∷ 0x88 ∷ 0x02 ∷ [])) ∷
+      [])
   -- 600 up: 06, another count, misaligned, beside the group: 9
   pub thermostat_range : Plays fresh_module (
       (requested 0x06 600 129 ⇒ excepts 9 0x86 0x02) ∷
@@ -494,6 +818,12 @@ register_table = record {
   outputs_held = passed _ _ _ (simp eqb_same) refl;
   thermostat_written = passed _ _ _ (simp eqb_same) refl;
   thermostat_values = passed _ _ _ (simp eqb_same) refl;
+  bands_written = passed _ _ _ (simp eqb_same) refl;
+  bands_not_written = passed _ _ _ (simp eqb_same) refl;
+  bands_written_idle = passed _ _ _ (simp eqb_same) refl;
+  actions_written = passed _ _ _ (simp eqb_same) refl;
+  actions_not_written = passed _ _ _ (simp eqb_same) refl;
+  bands_written_quiet = passed _ _ _ (simp eqb_same) refl;
   thermostat_range = passed _ _ _ (simp eqb_same) refl;
   write_nowhere = passed _ _ _ (simp eqb_same) refl;
   write_lengths = passed _ _ _ (simp eqb_same) refl;

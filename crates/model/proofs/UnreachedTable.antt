@@ -104,13 +104,73 @@ pub record UnreachedTable : Type 0 where
       (temperature_of false (pos 0) ⇒ silently 0) ∷
       (asked 0x30 [] ⇒ answers (0x00 ∷ 0x01 ∷ [])) ∷
       [])
-  -- nor has it a part in SS
-  pub sensor_fifteen : Plays (with_thermostats fresh_module (thermostat 0x9F (pos 300) (pos 200) 0 0 ∷ replicate 15 fresh_thermostat)) (
+  -- nor has it a part in SS: its three bits leave out the third S (E6)
+  pub sensor_seven : Plays (with_thermostats fresh_module (thermostat 0x97 (pos 300) (pos 200) 0 0 ∷ replicate 15 fresh_thermostat)) (
       (temperature_of true (pos 301) ⇒ silently 0) ∷
+      (asked 0x30 [] ⇒ answers (0x00 ∷ 0x01 ∷ [])) ∷
+      (temperature_of true (pos 250) ⇒ silently 0) ∷
       (asked 0x30 [] ⇒ answers (0x00 ∷ 0x01 ∷ [])) ∷
       (temperature_of true (pos 199) ⇒ silently 0) ∷
       (asked 0x30 [] ⇒ answers (0x00 ∷ 0x00 ∷ [])) ∷
       (asked 0x38 (0x01 ∷ []) ⇒ answers (0xA1 ∷ [])) ∷
+      [])
+  -- the same sensor beside the third S (E6)
+  pub sensor_seven_band : Plays
+      (with_thermostats fresh_module (thermostat 0x9F (pos 300) (pos 200) 0 0 ∷ thermostat 0xAA (pos 300) (pos 200) 0 2 ∷ replicate 14 fresh_thermostat)) (
+      (temperature_of true (pos 301) ⇒ silently 0) ∷
+      (asked 0x30 [] ⇒ answers (0x00 ∷ 0x02 ∷ [])) ∷
+      (temperature_of true (pos 300) ⇒ silently 0) ∷
+      (asked 0x30 [] ⇒ answers (0x00 ∷ 0x01 ∷ [])) ∷
+      (asked 0x20 (0x01 ∷ 0x02 ∷ []) ⇒ answers []) ∷
+      (temperature_of true (pos 199) ⇒ silently 0) ∷
+      (asked 0x30 [] ⇒ answers (0x00 ∷ 0x02 ∷ [])) ∷
+      (asked 0x20 (0x81 ∷ []) ⇒ refuses 12 0x03) ∷
+      (asked 0x38 (0x01 ∷ 0x02 ∷ []) ⇒ answers (0xA9 ∷ 0xAA ∷ [])) ∷
+      (temperature_of true (pos 200) ⇒ silently 0) ∷
+      (temperature_of false (pos 0) ⇒ silently 0) ∷
+      (asked 0x30 [] ⇒ answers (0x00 ∷ 0x03 ∷ [])) ∷
+      [])
+  -- the third S (E6) with TEMPx below TEMPy: no reading is within, so SS 00 is off and SS 01 on; it holds at every reading
+  pub band_reversed : Plays
+      (with_thermostats fresh_module (thermostat 0x89 (pos 200) (pos 300) 0 0 ∷ thermostat 0xA9 (pos 200) (pos 300) 0 0 ∷ replicate 14 fresh_thermostat)) (
+      (temperature_of true (pos 250) ⇒ silently 0) ∷
+      (asked 0x30 [] ⇒ answers (0x00 ∷ 0x02 ∷ [])) ∷
+      (asked 0x20 (0x81 ∷ []) ⇒ refuses 12 0x03) ∷
+      (temperature_of true (pos 200) ⇒ silently 0) ∷
+      (asked 0x30 [] ⇒ answers (0x00 ∷ 0x02 ∷ [])) ∷
+      (temperature_of true (pos 300) ⇒ silently 0) ∷
+      (asked 0x30 [] ⇒ answers (0x00 ∷ 0x02 ∷ [])) ∷
+      (asked 0x20 (0x02 ∷ []) ⇒ refuses 12 0x03) ∷
+      [])
+  -- the third S (E6) with an ERR above 2: a fault does nothing
+  pub band_err_three : Plays
+      (with_thermostats fresh_module (thermostat 0x89 (pos 300) (pos 200) 0 3 ∷ thermostat 0xA9 (pos 300) (pos 200) 0 3 ∷ replicate 14 fresh_thermostat)) (
+      (temperature_of true (pos 250) ⇒ silently 0) ∷
+      (asked 0x30 [] ⇒ answers (0x00 ∷ 0x01 ∷ [])) ∷
+      (temperature_of false (pos 0) ⇒ silently 0) ∷
+      (asked 0x30 [] ⇒ answers (0x00 ∷ 0x01 ∷ [])) ∷
+      (temperature_of true (pos 199) ⇒ silently 0) ∷
+      (temperature_of false (pos 0) ⇒ silently 0) ∷
+      (asked 0x30 [] ⇒ answers (0x00 ∷ 0x02 ∷ [])) ∷
+      [])
+  -- SS 10 and 11 with the third S (E6) go as 01, with either K and whatever TIME is; ERR, holding and 38H are as ever
+  pub band_pulses : Plays
+      (with_thermostats fresh_module (thermostat 0xC9 (pos 300) (pos 200) 1 0 ∷ thermostat 0xD9 (pos 300) (pos 200) 0 1 ∷ thermostat 0xE9 (pos 300) (pos 200) 1 2 ∷
+      thermostat 0xF9 (pos 300) (pos 200) 9 0 ∷ replicate 12 fresh_thermostat)) (
+      (temperature_of true (pos 301) ⇒ silently 0) ∷
+      (asked 0x30 [] ⇒ answers (0x00 ∷ 0x0F ∷ [])) ∷
+      (asked 0x33 (0x01 ∷ 0x03 ∷ []) ⇒ answers (0x81 ∷ 0x00 ∷ 0x83 ∷ 0x00 ∷ [])) ∷
+      (asked 0x20 (0x01 ∷ []) ⇒ refuses 12 0x03) ∷
+      (temperature_of true (pos 300) ⇒ silently 0) ∷
+      (asked 0x30 [] ⇒ answers (0x00 ∷ 0x00 ∷ [])) ∷
+      (asked 0x20 (0x81 ∷ 0x82 ∷ 0x84 ∷ []) ⇒ answers []) ∷
+      (temperature_of true (pos 200) ⇒ silently 0) ∷
+      (asked 0x30 [] ⇒ answers (0x00 ∷ 0x00 ∷ [])) ∷
+      (temperature_of true (pos 199) ⇒ silently 0) ∷
+      (asked 0x30 [] ⇒ answers (0x00 ∷ 0x0F ∷ [])) ∷
+      (temperature_of false (pos 0) ⇒ silently 0) ∷
+      (asked 0x30 [] ⇒ answers (0x00 ∷ 0x0D ∷ [])) ∷
+      (asked 0x38 (0x01 ∷ 0x02 ∷ 0x03 ∷ 0x04 ∷ []) ⇒ answers (0xAC ∷ 0xAD ∷ 0xAE ∷ 0xAF ∷ [])) ∷
       [])
   -- a notice that is off and has a mask writes nothing, and its mask is shown
   pub off_with_mask : Plays (with_notice fresh_module (notice 0 0xFFFF 0x05)) (
@@ -185,7 +245,11 @@ unreached_table = record {
   limits_exchanged = passed _ _ _ refl refl;
   err_three = passed _ _ _ refl refl;
   sensor_two = passed _ _ _ refl refl;
-  sensor_fifteen = passed _ _ _ refl refl;
+  sensor_seven = passed _ _ _ refl refl;
+  sensor_seven_band = passed _ _ _ refl refl;
+  band_reversed = passed _ _ _ refl refl;
+  band_err_three = passed _ _ _ refl refl;
+  band_pulses = passed _ _ _ refl refl;
   off_with_mask = passed _ _ _ refl refl;
   modes_lacking = passed _ _ _ refl refl;
   counters_lacking = passed _ _ _ refl refl;

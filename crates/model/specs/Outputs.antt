@@ -117,7 +117,7 @@ pulse_shown os n =
 unfoldable pub preset_shown : List Preset → ℕ → List ℕ
 preset_shown ps n = (preset_of ps n).kind ∷ (preset_of ps n).time.0 ∷ []
 
--- 38H: an active thermostat shows as A0H with its SS and K for the low three bits; without one, the preset's type
+-- 38H: an active thermostat shows as A0H with its third S, SS and K for the low four bits; without one, the preset's type
 unfoldable pub mode_byte : List Thermostat → List Preset → ℕ → List ℕ
 mode_byte hs ps n =
     let h = get_or hs (n - 1) fresh_thermostat in

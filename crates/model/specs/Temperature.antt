@@ -1,5 +1,5 @@
 -- 01, Temperature.
-use Rattle.std.specs.Prelude.{ℕ, ◌-◌, ◌/◌, ◌%◌, Bool, true, false, cond, not, ◌&&◌, ◌||◌, length, get_or, set, ltb, leb, eqb, ℤ, pos, negsuc, Float}
+use Rattle.std.specs.Prelude.{ℕ, ◌≡◌, ◌+◌, ◌-◌, ◌/◌, ◌%◌, Bool, true, false, cond, not, ◌&&◌, ◌||◌, length, get_or, set, ltb, leb, eqb, ℤ, pos, negsuc, Float}
 use mathlib.Core.List.{List, [], ◌∷◌, ◌++◌, foldl, flat_map}
 use Rattle.std.specs.Int.Signed.{lt_z, le_z}
 use Rattle.std.specs.Float.{binary32}
@@ -58,7 +58,7 @@ reading_words Fault = 1 ∷ 0 ∷ 0 ∷ 0 ∷ []
 
 -- Thermostats ------------------------------------------------------------------------------
 
--- flags FSSKTTTT: F, SS, K and the sensor
+-- flags FSSKSTTT: F, SS, K, the third S and the sensor
 abbrev pub active : Thermostat → Bool
 active h = leb 128 h.flags
 
@@ -68,21 +68,30 @@ action h = h.flags / 32 % 4
 abbrev pub on_fall : Thermostat → Bool
 on_fall h = eqb (h.flags / 16 % 2) 1
 
+-- goes it by its band, which SS 00 and 01 alone can
+abbrev pub third_s : Thermostat → Bool
+third_s h = eqb (h.flags / 8 % 2) 1
+
 abbrev pub sensor : Thermostat → ℕ
-sensor h = h.flags % 16
+sensor h = h.flags % 8
 
--- SS and K in three bits
+-- SS and K in three bits, over them the third S
 abbrev pub setting_shown : Thermostat → ℕ
-setting_shown h = h.flags / 16 % 8
+setting_shown h = cond (third_s h) 8 0 + h.flags / 16 % 8
 
--- what may be stored: ERR at most 2; an active one also needs the only sensor, TEMPy not over TEMPx, and a TIME other than 0 for pulses
+-- what may be stored: ERR at most 2; an active one also needs the only sensor and TEMPy not over TEMPx, and for pulses a TIME other than 0
+-- and no third S
 unfoldable pub thermostat_fits : Thermostat → Bool
 thermostat_fits h =
     leb h.err 2
     && (not (active h)
     || (eqb (sensor h) 1
     && (le_z h.tempy h.tempx
-    && (ltb (action h) 2 || not (eqb h.time.0 0)))))
+    && (ltb (action h) 2 || (not (third_s h) && not (eqb h.time.0 0))))))
+
+-- the band of a thermostat, from TEMPy to TEMPx, both ends in it
+abbrev pub in_band : Thermostat → ℤ → Bool
+in_band h t = le_z h.tempy t && le_z t h.tempx
 
 -- a group's eight bytes: 0 the output, 1 the flags, words at 2 and 4 for TEMPx and TEMPy, 6 TIME, 7 ERR
 unfoldable pub group_thermostat : List ℕ → Thermostat
@@ -110,9 +119,9 @@ read_thermostats d hs =
     refuse 8 (not (leb (length d) most_items)) (refuse 11 (not (all is_number ns)) (telling (flat_map (group_shown hs) ns)))
 
 -- 12: an active thermostat leaves its output to commands (20H, 23H, 25H, coils, registers 500 to 515) only while the reading is valid
--- and in its band, neither under TEMPy nor over TEMPx
+-- and in its band
 unfoldable pub free : Reading → Thermostat → Bool
-free (Valid t x) h = not (active h) || (le_z h.tempy t && le_z t h.tempx)
+free (Valid t x) h = not (active h) || in_band h t
 free Fault h = not (active h)
 
 -- of output n
@@ -121,10 +130,15 @@ free_at r hs n = free r (get_or hs (n - 1) fresh_thermostat)
 
 -- A temperature sample ----------------------------------------------------------------------
 
--- SS 00 and 01: outside the band the output is set, over TEMPx to `above` (on for 00, off for 01), under TEMPy to the opposite; a set ends
+-- SS 00 and 01 without the third S: outside the band the output is set, over TEMPx to `above` (on for 00, off for 01), under TEMPy to the opposite; a set ends
 -- a pulse. Were TEMPx below TEMPy, above TEMPx would go first.
 unfoldable pub levelled : Bool → Thermostat → ℤ → Output → Output
 levelled above h now o = cond (lt_z h.tempx now) (output above 0) (cond (lt_z now h.tempy) (output (not above) 0) o)
+
+-- SS 00 and 01 with the third S: the output is set at every valid sample, in the band to on for 00 and off for 01, outside it to the
+-- opposite; K is not asked. SS 10 and 11, which no setting gives here, would go as 01.
+unfoldable pub banded : Thermostat → ℤ → Output
+banded h now = output (cond (in_band h now) (eqb (action h) 0) (not (eqb (action h) 0))) 0
 
 -- has this reading passed TEMPx upward (K 0) or TEMPy downward (K 1), seen from the last valid one? where there was none yet, no
 unfoldable pub crossed : Thermostat → Reading → ℤ → Bool
@@ -136,14 +150,15 @@ crossed h Fault now = false
 unfoldable pub crossing : Bool → Thermostat → Reading → ℤ → Output → Output
 crossing on h last now o = cond (crossed h last now) (output on (second_samples h.time)) o
 
--- a valid sample, for one output: an active thermostat acts by its SS. Another sensor than 1, which no setting gives, would act on the one
--- reading.
+-- a valid sample, for one output: an active thermostat acts by its three S. Another sensor than 1, which no setting gives, would act on the
+-- one reading.
 unfoldable pub heated : Reading → ℤ → Thermostat → Output → Output
 heated last now h o =
     cond (not (active h)) o
+    (cond (third_s h) (banded h now)
     (cond (eqb (action h) 0) (levelled true h now o)
     (cond (eqb (action h) 1) (levelled false h now o)
-    (crossing (eqb (action h) 2) h last now o)))
+    (crossing (eqb (action h) 2) h last now o))))
 
 -- a fault, for one output: with an active thermostat ERR 1 sets it off, ERR 2 on, ERR 0 leaves it; another, which no setting gives, would too
 unfoldable pub failed : Thermostat → Output → Output
@@ -160,3 +175,55 @@ by_thermostat f hs os = mapi (λ i o. f (get_or hs i fresh_thermostat) o) os
 unfoldable pub taken : Reading → Module → Module
 taken (Valid t x) m = with_reading m (by_thermostat (heated m.last t) m.settings.thermostats m.outputs) (Valid t x) (Valid t x)
 taken Fault m = with_reading m (by_thermostat failed m.settings.thermostats m.outputs) Fault m.last
+
+-- Before the third S -------------------------------------------------------------------------
+
+-- Flags were FSSKTTTT, with a sensor of four bits, and SS and K alone told what a thermostat does. No call goes by these: they stand
+-- beside those above for the law that what could be stored then means now what it meant. What is the same then and now stands once:
+-- F, SS and K, levels and crossings, and what a fault does.
+abbrev pub sensor_before : Thermostat → ℕ
+sensor_before h = h.flags % 16
+
+abbrev pub setting_before : Thermostat → ℕ
+setting_before h = h.flags / 16 % 8
+
+unfoldable pub fits_before : Thermostat → Bool
+fits_before h =
+    leb h.err 2
+    && (not (active h)
+    || (eqb (sensor_before h) 1
+    && (le_z h.tempy h.tempx
+    && (ltb (action h) 2 || not (eqb h.time.0 0)))))
+
+unfoldable pub free_before : Reading → Thermostat → Bool
+free_before (Valid t x) h = not (active h) || (le_z h.tempy t && le_z t h.tempx)
+free_before Fault h = not (active h)
+
+unfoldable pub heated_before : Reading → ℤ → Thermostat → Output → Output
+heated_before last now h o =
+    cond (not (active h)) o
+    (cond (eqb (action h) 0) (levelled true h now o)
+    (cond (eqb (action h) 1) (levelled false h now o)
+    (crossing (eqb (action h) 2) h last now o)))
+
+unfoldable pub taken_before : Reading → Module → Module
+taken_before (Valid t x) m = with_reading m (by_thermostat (heated_before m.last t) m.settings.thermostats m.outputs) (Valid t x) (Valid t x)
+taken_before Fault m = with_reading m (by_thermostat failed m.settings.thermostats m.outputs) Fault m.last
+
+-- a thermostat of the two modes that are new: what had been sensor 9 is the third S beside sensor 1
+unfoldable pub is_new_mode : Thermostat → Bool
+is_new_mode h = leb h.err 2 && (active h && (eqb (sensor_before h) 9 && (le_z h.tempy h.tempx && ltb (action h) 2)))
+
+-- what a thermostat's settings were and are: nothing is stored but what was and the new modes, which were not; whatever is stored holds
+-- as it did; and where it could be stored before, the third S is 0 if it acts, and it acts and shows as it did
+pub record SettingKept (h : Thermostat) : Type 0 where
+  pub stored : thermostat_fits h ≡ (fits_before h || is_new_mode h)
+  pub apart : is_new_mode h ≡ true → fits_before h ≡ false
+  pub holds : (r : Reading) → free r h ≡ free_before r h
+  pub clear : fits_before h ≡ true → active h ≡ true → third_s h ≡ false
+  pub acts : fits_before h ≡ true → (last : Reading) (now : ℤ) (o : Output) → heated last now h o ≡ heated_before last now h o
+  pub shown : fits_before h ≡ true → active h ≡ true → setting_shown h ≡ setting_before h
+
+-- and so a reading of either kind does to a module with such settings what it did
+abbrev pub HeatKept : Module → Type 0
+HeatKept m = all fits_before m.settings.thermostats ≡ true → (r : Reading) → taken r m ≡ taken_before r m

@@ -60,7 +60,7 @@ impl Preset {
     };
 }
 
-// A thermostat's settings. The flags are FSSKTTTT. Flags and ERR are bytes and no enums: any may be stored, and is shown so.
+// A thermostat's settings. The flags are FSSKSTTT. Flags and ERR are bytes and no enums: any may be stored, and is shown so.
 #[derive(Clone, Copy)]
 pub struct Thermostat {
     pub flags: u8,

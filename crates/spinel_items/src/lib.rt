@@ -38,7 +38,7 @@ pub fn show_preset(ps: [Preset; 16], n: u8, out: Data) -> Data
     out.push(p.kind).push(p.time.0)
 }
 
-// Mode byte of output n: A0H and SSK of an active thermostat, else the preset's type.
+// Mode byte of output n: A0H with the third S, SS and K of an active thermostat, else the preset's type.
 #[tactic(auto, unfolding(model::specs::Outputs::mode_byte, lists::specs::Data::extended))]
 pub fn show_mode(hs: [Thermostat; 16], ps: [Preset; 16], n: u8, out: Data) -> Data
     ensures { result ≡ extended out (mode_byte hs ps n) }

@@ -3,7 +3,7 @@
 
 ghost use Rattle.std.specs.Prelude.{◌≡◌, ◌&&◌};
 ghost use Rattle.std.specs.Int.Signed.{lt_z, le_z};
-ghost use Rattle.model.specs.Temperature.{reading_of, levelled, crossed, crossing, heated, failed};
+ghost use Rattle.model.specs.Temperature.{reading_of, levelled, banded, crossed, crossing, heated, failed};
 ghost use Rattle.thermostat.specs.Acting.{acting};
 
 use holding::Action;
@@ -19,7 +19,7 @@ pub fn reading_of(good: bool, tenths: i16) -> Reading
     Reading::Fault
 }
 
-// SS 00 (`above` is true) and 01 (`above` is false): the output's state above TEMPx, the opposite below TEMPy.
+// SS 00 (`above` is true) and 01 (`above` is false) without the third S: the output's state above TEMPx, the opposite below TEMPy.
 fn level(above: bool, h: Thermostat, now: i16, o: Output) -> Output
     ensures { result ≡ levelled above h now o }
 {
@@ -30,6 +30,18 @@ fn level(above: bool, h: Thermostat, now: i16, o: Output) -> Output
         return outputs::set(!above);
     }
     o
+}
+
+// SS 00 and 01 with the third S: on in the band and off outside, or the reverse.
+#[tactic(auto, unfolding(model::specs::Temperature::banded))]
+fn band(h: Thermostat, now: i16) -> Output
+    ensures { result ≡ banded h now }
+{
+    let on = matches!(holding::action_of(h), Action::On);
+    if holding::is_in_band(h, now) {
+        return outputs::set(on);
+    }
+    outputs::set(!on)
 }
 
 // From at most TEMPx to above it.
@@ -69,7 +81,7 @@ fn cross(on: bool, h: Thermostat, last: Reading, now: i16, o: Output) -> Output
     o
 }
 
-// One output at a valid sample, by its thermostat's SS. The four parameters are the definition's: a struct of them would be made here
+// One output at a valid sample, by its thermostat's three S. The four parameters are the definition's: a struct of them would be made here
 // to be taken apart in the next.
 pub fn heat(last: Reading, now: i16, h: Thermostat, o: Output) -> Output
     ensures { result ≡ heated last now h o }
@@ -77,9 +89,12 @@ pub fn heat(last: Reading, now: i16, h: Thermostat, o: Output) -> Output
     if !holding::is_active(h) {
         return o;
     }
+    if holding::has_third_s(h) {
+        return band(h, now);
+    }
     match holding::action_of(h) {
-        Action::OnAbove => level(true, h, now, o),
-        Action::OffAbove => level(false, h, now, o),
+        Action::On => level(true, h, now, o),
+        Action::Off => level(false, h, now, o),
         Action::OnPulse => cross(true, h, last, now, o),
         Action::OffPulse => cross(false, h, last, now, o),
     }

@@ -1,0 +1,144 @@
+-- What could be stored before the third S can be stored now and means the same; all else that can is a new mode. Assumes nothing.
+use Prim.Native.Nat.{ℕ, zero, suc, ◌/◌, ◌%◌}
+use native.Mathlib.Omega.{arith}
+use mathlib.Core.Path.{◌≡◌, refl, ap, ◌∙◌}
+use mathlib.Core.List.{List, [], ◌∷◌}
+use mathlib.Core.Bool.{Bool, true, false, not, ◌&&◌, ◌||◌}
+use lib.ListN.{get_or}
+use lib.Dec.{eqb, leb, ltb}
+use lib.IntN.{ℤ}
+use lib.Signed.{le_z}
+use borrow.Author.Tests.{eqb-true, eqb-false, eq-eqb, ne_eqb}
+use Rattle.lists.specs.Tests.{all}
+use Rattle.lists.specs.Mapi.{mapi}
+use Rattle.lists.proofs.Choices.{all_first, all_rest, and_left, and_right}
+use Rattle.model.specs.declared.Output.{Output}
+use Rattle.model.specs.declared.Thermostat.{Thermostat}
+use Rattle.model.specs.declared.Reading.{Reading}
+use Rattle.model.specs.declared.Reading.TheVariants.{Valid, Fault}
+use Rattle.model.specs.declared.Module.{Module}
+use Rattle.model.specs.State.{fresh_thermostat, with_reading}
+use Rattle.model.specs.Temperature.{active, action, third_s, sensor, setting_shown, thermostat_fits, free, heated, taken}
+use Rattle.model.specs.Temperature.{sensor_before, setting_before, fits_before, free_before, heated_before, taken_before, is_new_mode, SettingKept, HeatKept}
+
+-- the third S is the top bit of the sensor that was: sensor 1 is as it was without it
+split : (f : ℕ) → eqb (f % 16) 1 ≡ (not (eqb (f / 8 % 2) 1) && eqb (f % 8) 1)
+split f = go (eqb (f / 8 % 2) 1) (eqb (f % 8) 1) refl refl
+  where
+    go : (t s : Bool) → eqb (f / 8 % 2) 1 ≡ t → eqb (f % 8) 1 ≡ s → eqb (f % 16) 1 ≡ (not t && s)
+    go true s a b =
+        let one : f / 8 % 2 ≡ 1 = eqb-true (f / 8 % 2) 1 a in
+        ne_eqb (f % 16) 1 (omega arith)
+    go false true a b =
+        let none : (f / 8 % 2 ≡ 1 → ⊥) = eqb-false (f / 8 % 2) 1 a in
+        let one : f % 8 ≡ 1 = eqb-true (f % 8) 1 b in
+        eq-eqb (f % 16) 1 (omega arith)
+    go false false a b =
+        let none : (f % 8 ≡ 1 → ⊥) = eqb-false (f % 8) 1 b in
+        ne_eqb (f % 16) 1 (omega arith)
+
+-- and with it, sensor 1 is what was 9
+ninth : (f : ℕ) → eqb (f % 16) 9 ≡ (eqb (f / 8 % 2) 1 && eqb (f % 8) 1)
+ninth f = go (eqb (f / 8 % 2) 1) (eqb (f % 8) 1) refl refl
+  where
+    go : (t s : Bool) → eqb (f / 8 % 2) 1 ≡ t → eqb (f % 8) 1 ≡ s → eqb (f % 16) 9 ≡ (t && s)
+    go false s a b =
+        let none : (f / 8 % 2 ≡ 1 → ⊥) = eqb-false (f / 8 % 2) 1 a in
+        ne_eqb (f % 16) 9 (omega arith)
+    go true true a b =
+        let top : f / 8 % 2 ≡ 1 = eqb-true (f / 8 % 2) 1 a in
+        let one : f % 8 ≡ 1 = eqb-true (f % 8) 1 b in
+        eq-eqb (f % 16) 9 (omega arith)
+    go true false a b =
+        let none : (f % 8 ≡ 1 → ⊥) = eqb-false (f % 8) 1 b in
+        ne_eqb (f % 16) 9 (omega arith)
+
+-- the tests of old and new, the error, F, the third S, the sensor, the limits, SS and the time each by its result
+either : (e f t s l a z : Bool)
+    → (e && (not f || (s && (l && (a || (not t && not z))))))
+    ≡ ((e && (not f || ((not t && s) && (l && (a || not z))))) || (e && (f && ((t && s) && (l && a)))))
+either false f t s l a z = refl
+either true false t s l a z = refl
+either true true t false l a z = go t
+  where
+    go : (t : Bool) → false ≡ (((not t && false) && (l && (a || not z))) || ((t && false) && (l && a)))
+    go true = refl
+    go false = refl
+either true true true true false a z = refl
+either true true true true true true z = refl
+either true true true true true false z = refl
+either true true false true l a z = go (l && (a || not z))
+  where
+    go : (b : Bool) → b ≡ (b || false)
+    go true = refl
+    go false = refl
+
+-- by the same tests: a new mode has the third S, with which the sensor that was is none
+not_both : (e f t s l a z : Bool) → (e && (f && ((t && s) && (l && a)))) ≡ true → (e && (not f || ((not t && s) && (l && (a || not z))))) ≡ false
+not_both false f t s l a z h = refl
+not_both true false t s l a z h = cc
+not_both true true false s l a z h = cc
+not_both true true true s l a z h = refl
+
+module _ (h : Thermostat) where
+  stored : thermostat_fits h ≡ (fits_before h || is_new_mode h)
+  unfolding thermostat_fits fits_before is_new_mode
+  stored =
+      rw (split h.flags, ninth h.flags)
+      (either (leb h.err 2) (active h) (third_s h) (eqb (sensor h) 1) (le_z h.tempy h.tempx) (ltb (action h) 2) (eqb h.time.0 0))
+
+  apart : is_new_mode h ≡ true → fits_before h ≡ false
+  unfolding fits_before is_new_mode
+  apart n =
+      rw (split h.flags)
+      (not_both (leb h.err 2) (active h) (third_s h) (eqb (sensor h) 1) (le_z h.tempy h.tempx) (ltb (action h) 2) (eqb h.time.0 0) (rw (ninth h.flags) at n))
+
+  holds : (r : Reading) → free r h ≡ free_before r h
+  unfolding free free_before
+  holds (Valid t x) = refl
+  holds Fault = refl
+
+  clear : fits_before h ≡ true → active h ≡ true → third_s h ≡ false
+  unfolding fits_before
+  clear s e =
+      let rest = rw e at (and_right (leb h.err 2) _ s) in
+      let one : eqb (sensor_before h) 1 ≡ true = and_left (eqb (sensor_before h) 1) _ rest in
+      let low : h.flags % 16 ≡ 1 = eqb-true (h.flags % 16) 1 one in
+      ne_eqb (h.flags / 8 % 2) 1 (omega arith)
+
+  acts : fits_before h ≡ true → (last : Reading) (now : ℤ) (o : Output) → heated last now h o ≡ heated_before last now h o
+  unfolding heated heated_before
+  acts s last now o = go (active h) refl
+    where
+      go : (b : Bool) → active h ≡ b → heated last now h o ≡ heated_before last now h o
+      go false e = rw e refl
+      go true e = rw (e, clear s e) refl
+
+  shown : fits_before h ≡ true → active h ≡ true → setting_shown h ≡ setting_before h
+  shown s e = rw (clear s e) (omega arith)
+
+  pub setting_kept : SettingKept h
+  setting_kept = record { stored = stored; apart = apart; holds = holds; clear = clear; acts = acts; shown = shown }
+
+-- two maps that agree at each place
+each : {A B : Type 0} (f g : ℕ → A → B) → ((i : ℕ) (x : A) → f i x ≡ g i x) → (l : List A) → mapi f l ≡ mapi g l
+unfolding mapi
+each f g e [] = refl
+each f g e (x ∷ l) =
+    ap (λ y. y ∷ mapi (λ i. f (suc i)) l) (e 0 x)
+    ∙ ap (λ t. g 0 x ∷ t) (each (λ i. f (suc i)) (λ i. g (suc i)) (λ i. e (suc i)) l)
+
+-- the one at a place, which is fresh where there is none
+at_place : (hs : List Thermostat) (i : ℕ) → all fits_before hs ≡ true → fits_before (get_or hs i fresh_thermostat) ≡ true
+unfolding fits_before
+at_place [] i a = refl
+at_place (h ∷ hs) zero a = all_first fits_before h hs a
+at_place (h ∷ hs) (suc i) a = at_place hs i (all_rest fits_before h hs a)
+
+pub heat_kept : (m : Module) → HeatKept m
+unfolding taken taken_before
+heat_kept m a (Valid t x) =
+    let hs = m.settings.thermostats in
+    ap (λ os. with_reading m os (Valid t x) (Valid t x))
+    (each _ _ (λ i o. acts (get_or hs i fresh_thermostat) (at_place hs i a) m.last t o) m.outputs)
+heat_kept m a Fault = refl
