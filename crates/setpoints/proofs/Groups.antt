@@ -1,16 +1,11 @@
 -- Setpoints pushed in turn: the first twelve. Assumes nothing.
-use Rattle.std.proofs.Common.{◌≡◌, refl, sym, ap, ◌∙◌, arith, ℕ, zero, suc, ◌/◌, ◌<◌, ◌≤◌, length, take, drop, List, [], ◌∷◌, ◌++◌, Bor, append_assoc, length-append}
-use Rattle.std.proofs.lemmas.List.{take_at, drop_at}
-use Rattle.std.specs.Iterator.{AlwaysYields}
-use Rattle.std.specs.declared.slice.ChunksExact.{ChunksExact}
-use Rattle.std.specs.Slice.Iter.{chunks_exact_rest, chunks_exact_size, chunks_exact_steps}
-use Rattle.std.proofs.lemmas.Iterator.{YieldsList}
+use Rattle.std.proofs.Common.{◌≡◌, arith, ℕ, ◌<◌, ◌≤◌, length, take, List, [], ◌∷◌, ◌++◌, append_assoc, length-append}
+use Rattle.std.proofs.lemmas.List.{take_at}
 use native.Mathlib.Decide.{ℕ_discrete}
 use mathlib.Core.List.{append-nil, map, foldl}
 use lib.Seq.{take_all}
 use borrow.Author.Tests.{lt-ltb, le-ltb}
 use Rattle.lists.specs.Bounded.{added}
-use Rattle.lists.specs.Chunks.{chunks, chunks_of}
 use Rattle.lists.proofs.DataLaws.{filled_push}
 use Rattle.setpoints.specs.declared.Setpoint.{Setpoint}
 use Rattle.setpoints.specs.Setpoints.{Setpoints, no_setpoint, group_setpoint, setpoints_of}
