@@ -1,5 +1,5 @@
 -- What could be stored before the third S can be stored now and means the same; all else that can is a new mode. Assumes nothing.
-use Prim.Native.Nat.{ℕ, zero, suc, ◌/◌, ◌%◌}
+use Prim.Native.Nat.{ℕ, zero, suc, ◌+◌, ◌*◌, ◌/◌, ◌%◌, ◌<◌}
 use native.Mathlib.Omega.{arith}
 use mathlib.Core.Path.{◌≡◌, refl, ap, ◌∙◌}
 use mathlib.Core.List.{List, [], ◌∷◌}
@@ -21,37 +21,40 @@ use Rattle.model.specs.State.{fresh_thermostat, with_reading}
 use Rattle.model.specs.Temperature.{active, action, third_s, sensor, setting_shown, thermostat_fits, free, heated, taken}
 use Rattle.model.specs.Temperature.{sensor_before, setting_before, fits_before, free_before, heated_before, taken_before, is_new_mode, SettingKept, HeatKept}
 
--- the third S is the top bit of the sensor that was: sensor 1 is as it was without it
-split : (f : ℕ) → eqb (f % 16) 1 ≡ (not (eqb (f / 8 % 2) 1) && eqb (f % 8) 1)
-split f = go (eqb (f / 8 % 2) 1) (eqb (f % 8) 1) refl refl
+-- four bits are 8 t + s where the topmost is t and the others s
+four_bits : (f t s : ℕ) → t < 2 → s < 8 → eqb (f % 16) (8 * t + s) ≡ (eqb (f / 8 % 2) t && eqb (f % 8) s)
+four_bits f t s h k = go (eqb (f / 8 % 2) t) (eqb (f % 8) s) refl refl
   where
-    go : (t s : Bool) → eqb (f / 8 % 2) 1 ≡ t → eqb (f % 8) 1 ≡ s → eqb (f % 16) 1 ≡ (not t && s)
-    go true s a b =
-        let one : f / 8 % 2 ≡ 1 = eqb-true (f / 8 % 2) 1 a in
-        ne_eqb (f % 16) 1 (omega arith)
-    go false true a b =
-        let none : (f / 8 % 2 ≡ 1 → ⊥) = eqb-false (f / 8 % 2) 1 a in
-        let one : f % 8 ≡ 1 = eqb-true (f % 8) 1 b in
-        eq-eqb (f % 16) 1 (omega arith)
-    go false false a b =
-        let none : (f % 8 ≡ 1 → ⊥) = eqb-false (f % 8) 1 b in
-        ne_eqb (f % 16) 1 (omega arith)
-
--- and with it, sensor 1 is what was 9
-ninth : (f : ℕ) → eqb (f % 16) 9 ≡ (eqb (f / 8 % 2) 1 && eqb (f % 8) 1)
-ninth f = go (eqb (f / 8 % 2) 1) (eqb (f % 8) 1) refl refl
-  where
-    go : (t s : Bool) → eqb (f / 8 % 2) 1 ≡ t → eqb (f % 8) 1 ≡ s → eqb (f % 16) 9 ≡ (t && s)
-    go false s a b =
-        let none : (f / 8 % 2 ≡ 1 → ⊥) = eqb-false (f / 8 % 2) 1 a in
-        ne_eqb (f % 16) 9 (omega arith)
-    go true true a b =
-        let top : f / 8 % 2 ≡ 1 = eqb-true (f / 8 % 2) 1 a in
-        let one : f % 8 ≡ 1 = eqb-true (f % 8) 1 b in
-        eq-eqb (f % 16) 9 (omega arith)
+    go : (x y : Bool) → eqb (f / 8 % 2) t ≡ x → eqb (f % 8) s ≡ y → eqb (f % 16) (8 * t + s) ≡ (x && y)
+    go false y a b =
+        let none : (f / 8 % 2 ≡ t → ⊥) = eqb-false (f / 8 % 2) t a in
+        ne_eqb (f % 16) (8 * t + s) (omega arith)
     go true false a b =
-        let none : (f % 8 ≡ 1 → ⊥) = eqb-false (f % 8) 1 b in
-        ne_eqb (f % 16) 9 (omega arith)
+        let none : (f % 8 ≡ s → ⊥) = eqb-false (f % 8) s b in
+        ne_eqb (f % 16) (8 * t + s) (omega arith)
+    go true true a b =
+        let top : f / 8 % 2 ≡ t = eqb-true (f / 8 % 2) t a in
+        let low : f % 8 ≡ s = eqb-true (f % 8) s b in
+        eq-eqb (f % 16) (8 * t + s) (omega arith)
+
+-- a remainder by 2 that is 0 is not 1
+clear_bit : (n : ℕ) → eqb (n % 2) 0 ≡ not (eqb (n % 2) 1)
+clear_bit n = go (eqb (n % 2) 1) refl
+  where
+    go : (x : Bool) → eqb (n % 2) 1 ≡ x → eqb (n % 2) 0 ≡ not x
+    go true a =
+        let one : n % 2 ≡ 1 = eqb-true (n % 2) 1 a in
+        ne_eqb (n % 2) 0 (omega arith)
+    go false a =
+        let none : (n % 2 ≡ 1 → ⊥) = eqb-false (n % 2) 1 a in
+        eq-eqb (n % 2) 0 (omega arith)
+
+-- so what was sensor 1 is sensor 1 without the third S, and what was 9 is 1 with it
+first : (f : ℕ) → eqb (f % 16) 1 ≡ (not (eqb (f / 8 % 2) 1) && eqb (f % 8) 1)
+first f = rw (← clear_bit (f / 8)) (four_bits f 0 1 (omega arith) (omega arith))
+
+ninth : (f : ℕ) → eqb (f % 16) 9 ≡ (eqb (f / 8 % 2) 1 && eqb (f % 8) 1)
+ninth f = four_bits f 1 1 (omega arith) (omega arith)
 
 -- the tests of old and new, the error, F, the third S, the sensor, the limits, SS and the time each by its result
 either : (e f t s l a z : Bool)
@@ -84,13 +87,13 @@ module _ (h : Thermostat) where
   stored : thermostat_fits h ≡ (fits_before h || is_new_mode h)
   unfolding thermostat_fits fits_before is_new_mode
   stored =
-      rw (split h.flags, ninth h.flags)
+      rw (first h.flags, ninth h.flags)
       (either (leb h.err 2) (active h) (third_s h) (eqb (sensor h) 1) (le_z h.tempy h.tempx) (ltb (action h) 2) (eqb h.time.0 0))
 
   apart : is_new_mode h ≡ true → fits_before h ≡ false
   unfolding fits_before is_new_mode
   apart n =
-      rw (split h.flags)
+      rw (first h.flags)
       (not_both (leb h.err 2) (active h) (third_s h) (eqb (sensor h) 1) (le_z h.tempy h.tempx) (ltb (action h) 2) (eqb h.time.0 0) (rw (ninth h.flags) at n))
 
   holds : (r : Reading) → free r h ≡ free_before r h

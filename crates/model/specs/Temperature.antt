@@ -68,7 +68,7 @@ action h = h.flags / 32 % 4
 abbrev pub on_fall : Thermostat → Bool
 on_fall h = eqb (h.flags / 16 % 2) 1
 
--- goes it by its band, which SS 00 and 01 alone can
+-- the third S: SS 00 and 01 go by the band
 abbrev pub third_s : Thermostat → Bool
 third_s h = eqb (h.flags / 8 % 2) 1
 
@@ -79,15 +79,18 @@ sensor h = h.flags % 8
 abbrev pub setting_shown : Thermostat → ℕ
 setting_shown h = cond (third_s h) 8 0 + h.flags / 16 % 8
 
--- what may be stored: ERR at most 2; an active one also needs the only sensor and TEMPy not over TEMPx, and for pulses a TIME other than 0
--- and no third S
+-- pulses need a TIME other than 0, and go with no third S
+abbrev pub action_fits : Thermostat → Bool
+action_fits h = ltb (action h) 2 || (not (third_s h) && not (eqb h.time.0 0))
+
+-- what may be stored: ERR at most 2; an active one also needs the only sensor, TEMPy not over TEMPx, and an action that fits
 unfoldable pub thermostat_fits : Thermostat → Bool
 thermostat_fits h =
     leb h.err 2
     && (not (active h)
     || (eqb (sensor h) 1
     && (le_z h.tempy h.tempx
-    && (ltb (action h) 2 || (not (third_s h) && not (eqb h.time.0 0))))))
+    && action_fits h)))
 
 -- the band of a thermostat, from TEMPy to TEMPx, both ends in it
 abbrev pub in_band : Thermostat → ℤ → Bool

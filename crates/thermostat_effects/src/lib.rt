@@ -1,11 +1,11 @@
 // What setpoints of either port come to, judged and put in place; and the reading that 51H shows.
 #![tactic(auto)]
 
-ghost use Rattle.std.specs.Prelude.{◌≡◌, cond, not, ◌&&◌, ◌||◌, eqb, ltb};
+ghost use Rattle.std.specs.Prelude.{◌≡◌, cond, not};
 ghost use mathlib.Core.List.{foldl};
 ghost use Rattle.lists.specs.Data.{data_of};
 ghost use Rattle.lists.specs.Tests.{all};
-ghost use Rattle.model.specs.Temperature.{action, third_s, thermostat_fits, reading_shown, read_temperature};
+ghost use Rattle.model.specs.Temperature.{action_fits, thermostat_fits, reading_shown, read_temperature};
 ghost use Rattle.model.specs.Numbers.{refused_by};
 ghost use Rattle.encoding.specs.Answers.{told, told_of};
 ghost use Rattle.thermostat_effects.specs.Parts.{setpoint_fits, setpoint_put};
@@ -15,9 +15,9 @@ use lists::Data;
 use model::{Reading, Refusal, Thermostat};
 use setpoints::Setpoint;
 
-// Whether it can act as it says: pulses take a time, and are none of the third S.
-fn is_possible(h: Thermostat) -> bool
-    ensures { result ≡ ltb (action h) 2 || (not (third_s h) && not (eqb h.time.0 0)) }
+// Whether its action is allowed: pulses take a time, and go with no third S.
+fn action_fits(h: Thermostat) -> bool
+    ensures { result ≡ action_fits h }
 {
     match holding::action_of(h) {
         Action::On | Action::Off => true,
@@ -30,7 +30,7 @@ fn is_possible(h: Thermostat) -> bool
 fn fits(h: Thermostat) -> bool
     ensures { result ≡ thermostat_fits h }
 {
-    let limits = (h.tempy <= h.tempx) & is_possible(h);
+    let limits = (h.tempy <= h.tempx) & action_fits(h);
     (h.err <= 2) & (!holding::is_active(h) | ((holding::sensor_of(h) == 1) & limits))
 }
 
