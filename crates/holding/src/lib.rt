@@ -43,7 +43,7 @@ pub fn is_on_fall(h: Thermostat) -> bool
     h.flags / 16 % 2 == 1
 }
 
-// The third S: whether it acts in its band.
+// The third S: whether it goes by its band.
 pub fn has_third_s(h: Thermostat) -> bool
     ensures { result ≡ third_s h }
 {

@@ -79,7 +79,7 @@ sensor h = h.flags % 8
 abbrev pub setting_shown : Thermostat → ℕ
 setting_shown h = cond (third_s h) 8 0 + h.flags / 16 % 8
 
--- pulses need a TIME other than 0, and go with no third S
+-- pulses need a TIME other than 0 and the third S not set
 abbrev pub action_fits : Thermostat → Bool
 action_fits h = ltb (action h) 2 || (not (third_s h) && not (eqb h.time.0 0))
 
@@ -133,8 +133,8 @@ free_at r hs n = free r (get_or hs (n - 1) fresh_thermostat)
 
 -- A temperature sample ----------------------------------------------------------------------
 
--- SS 00 and 01 without the third S: outside the band the output is set, over TEMPx to `above` (on for 00, off for 01), under TEMPy to the opposite; a set ends
--- a pulse. Were TEMPx below TEMPy, above TEMPx would go first.
+-- SS 00 and 01 without the third S: outside the band the output is set, over TEMPx to `above` (on for 00, off for 01), under TEMPy to the
+-- opposite; a set ends a pulse. Were TEMPx below TEMPy, above TEMPx would go first.
 unfoldable pub levelled : Bool → Thermostat → ℤ → Output → Output
 levelled above h now o = cond (lt_z h.tempx now) (output above 0) (cond (lt_z now h.tempy) (output (not above) 0) o)
 

@@ -30,8 +30,8 @@ fn action_fits(h: Thermostat) -> bool
 fn fits(h: Thermostat) -> bool
     ensures { result ≡ thermostat_fits h }
 {
-    let limits = (h.tempy <= h.tempx) & action_fits(h);
-    (h.err <= 2) & (!holding::is_active(h) | ((holding::sensor_of(h) == 1) & limits))
+    let settable = (h.tempy <= h.tempx) & action_fits(h);
+    (h.err <= 2) & (!holding::is_active(h) | ((holding::sensor_of(h) == 1) & settable))
 }
 
 // Whether a setpoint has the number of an output and settings that are allowed.
