@@ -5,14 +5,14 @@ use mathlib.Core.Path.{◌≡◌, refl, ap, ◌∙◌}
 use mathlib.Core.Bool.{Bool, true, false, cond}
 use lib.ListN.{length, get_or, replicate, get_or-replicate}
 use Rattle.lists.specs.Numbers.{bit_at}
-use Rattle.lists.proofs.Done.{get_or-mapi, length-mapi}
 use Rattle.model.specs.declared.Module.{Module}
 use Rattle.model.specs.declared.Line.{Line}
 use Rattle.model.specs.State.{fresh_line, fresh_module}
-use Rattle.model.specs.Samples.{counter_modulus, line_sampled, lines_sampled, selected_edge, counted, counters_sampled}
+use Rattle.model.specs.Samples.{counter_modulus, line_sampled, selected_edge, counted}
 use Rattle.model.specs.Tally.{Tally, Account, sampled_account, sampled_bit, fresh_tally}
 use Rattle.model.specs.Cycles.{Counting, counting_of, Agree}
 use Rattle.model.proofs.Bridge.{account, sampled_agrees}
+use Rattle.model.proofs.InputSampled.{counting_sampled, line_at, counter_at, lines_kept, counters_kept}
 
 -- n and u are the tally's sampling number and its account of the input in place i, whose number is i + 1
 pub record At (i : ℕ) (x : Counting) (n : ℕ) (u : Account) : Type 0 where
@@ -81,15 +81,11 @@ module _ (i : ℕ) (small : i < 16) (x : Counting) (n : ℕ) (u : Account) (bits
   abbrev now : Line
   now = line_sampled n (bit_at bits i) was
 
-  line_at : get_or (lines_sampled x.sampling bits x.lines) i fresh_line ≡ now
-  unfolding lines_sampled
-  line_at = get_or-mapi (λ k y. line_sampled x.sampling (bit_at bits k) y) x.lines i fresh_line fresh_line (omega (arith, v.lines)) ∙ rw v.sampling
+  line_now : get_or (counting_sampled bits x).lines i fresh_line ≡ now
+  line_now = line_at i bits x (omega (arith, v.lines)) ∙ rw v.sampling
 
-  counter_at : get_or (counters_sampled x.modes x.lines (lines_sampled x.sampling bits x.lines) x.counters) i 0 ≡ counted (selected_edge u.mode was now) (get_or x.counters i 0)
-  unfolding counters_sampled
-  counter_at =
-      get_or-mapi (λ k c. counted (selected_edge (get_or x.modes k 0) (get_or x.lines k fresh_line) (get_or (lines_sampled x.sampling bits x.lines) k fresh_line)) c) x.counters i 0 0 (omega (arith, v.counters))
-      ∙ rw (line_at, v.mode)
+  counter_now : get_or (counting_sampled bits x).counters i 0 ≡ counted (selected_edge u.mode was now) (get_or x.counters i 0)
+  counter_now = counter_at i bits x (omega (arith, v.lines)) (omega (arith, v.counters)) ∙ rw (v.sampling, v.mode)
 
   account_after : sampled_account n (sampled_bit bits (suc i)) u ≡ account now.stable now.run u.mode (u.edges + cond (selected_edge u.mode was now) 1 0) u.collected
   account_after =
@@ -98,24 +94,17 @@ module _ (i : ℕ) (small : i < 16) (x : Counting) (n : ℕ) (u : Account) (bits
       (ap (sampled_account n (bits / 2 ^ i % 2)) (as_line u was.stable was.run v.stable v.run)
       ∙ sampled_agrees n was.run u.mode u.edges u.collected (bits / 2 ^ i % 2) was.stable (omega arith))
 
-  -- the counting after a sample
-  abbrev pub counting_sampled : Counting
-  counting_sampled =
-      let now = lines_sampled x.sampling bits x.lines in
-      record { lines = now; modes = x.modes; counters = counters_sampled x.modes x.lines now x.counters; sampling = x.sampling }
-
-  pub sample_keeps : At i counting_sampled n (sampled_account n (sampled_bit bits (suc i)) u)
-  unfolding lines_sampled counters_sampled
+  pub sample_keeps : At i (counting_sampled bits x) n (sampled_account n (sampled_bit bits (suc i)) u)
   sample_keeps =
       rw account_after
       (record {
         sampling = v.sampling;
-        stable = rw line_at;
-        run = rw line_at;
+        stable = rw line_now;
+        run = rw line_now;
         mode = v.mode;
-        lines = length-mapi _ x.lines ∙ v.lines;
+        lines = lines_kept bits x ∙ v.lines;
         modes = v.modes;
-        counters = length-mapi _ x.counters ∙ v.counters;
+        counters = counters_kept bits x ∙ v.counters;
         times = v.times + cond (selected_edge u.mode was now) ((get_or x.counters i 0 + 1) / 4294967296) 0;
-        sum = rw counter_at (omega (arith, v.sum, wraps (selected_edge u.mode was now) (get_or x.counters i 0)));
+        sum = rw counter_now (omega (arith, v.sum, wraps (selected_edge u.mode was now) (get_or x.counters i 0)));
       })

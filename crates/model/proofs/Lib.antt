@@ -25,6 +25,7 @@ pub mod Short
 pub mod Refused
 pub mod OneInput
 pub mod Bridge
+pub mod InputSampled
 pub mod Invariant
 pub mod Deductions
 pub mod Effects
