@@ -91,13 +91,15 @@ pub fn low_word(v: u32) -> u16
     (v % 65536) as u16
 }
 
-// The number of sixteen bits, the lowest first.
+// The number of sixteen bits, the lowest first. A loop of shifts: so the sample call, which lays a mask on the number, is quickest.
 pub fn bits_of(bs: [bool; 16]) -> u16
     ensures { result ≡ bits_number bs }
 {
-    bs.iter()
-        .rev()
-        .fold(0, |bits, b| u16::from(*b) + 2 * (bits % 32768))
+    let mut bits = 0;
+    for i in 0..16 {
+        bits = bits | (u16::from(bs[i]) << i);
+    }
+    bits
 }
 
 // A 16-bit pattern read as two's complement.

@@ -1,11 +1,11 @@
--- The number of some bits: one turn of a loop over sixteen elements, from the last down, and parts of them by their number. Assumes nothing.
+-- The number of some bits: its bound, parts of them by their number, and the first ones with the next. Assumes nothing.
 use Prim.Native.Nat.{ℕ, zero, suc, ◌+◌, ◌*◌, ◌^◌, ◌<◌, ◌≤◌, ◌/◌, ◌%◌}
 use native.Mathlib.Nat.{pow-suc, le_of_suc-le-suc, not-suc-le-zero, pow-succ', mod-lt, mod-one, mod-eq_of_lt, zero-mod, zero-div, div-one, div-add-mod, div-div-eq-div-mul, mul-add-mod_self_left}
 use native.Mathlib.Omega.{arith}
 use mathlib.Core.Path.{◌≡◌, refl, sym, ap, ◌∙◌}
 use mathlib.Core.Bool.{Bool, true, false, cond}
 use mathlib.Core.List.{List, [], ◌∷◌, map}
-use lib.ListN.{length, drop, take}
+use lib.ListN.{length, get_or, drop, take}
 use mir.Val.{bool_byte}
 use Rattle.lists.specs.Numbers.{bits_number}
 use lib.Pow.{pow_pos}
@@ -26,11 +26,6 @@ bits_below zero [] h = omega arith
 bits_below zero (b ∷ bs) h = absurd (not-suc-le-zero h)
 bits_below (suc n) [] h = rw pow-suc (omega (arith, bits_below n [] (omega arith)))
 bits_below (suc n) (b ∷ bs) h = rw pow-suc (omega (arith, bits_below n bs (le_of_suc-le-suc h), bit_most b))
-
--- one bit more below at most fifteen, which leave room for it
-pub bits_more : (b : Bool) (bs : List Bool) → length bs ≤ 15 → bool_byte b + 2 * (bits_number bs % 32768) ≡ bits_number (b ∷ bs)
-unfolding bits_number
-bits_more b bs h = rw (byte_bit b, mod-eq_of_lt (bits_below 15 bs h))
 
 -- Parts of some bits, by their number ----------------------------------------------------
 
@@ -64,3 +59,16 @@ bytes_of zero bs h = refl
 bytes_of (suc zero) bs h = rw (bits_take 8 bs)
 bytes_of (suc (suc zero)) bs h = rw (bits_take 8 bs, bits_take 8 (drop 8 bs), bits_drop 8 bs)
 bytes_of (suc (suc (suc c))) bs h = absurd (let z : ⊥ = omega arith in z)
+
+-- Bits from the first on ------------------------------------------------------------------
+
+double : (b : Bool) (p : ℕ) → bool_byte b * (p * 2) ≡ 2 * (bool_byte b * p)
+double true p = omega arith
+double false p = omega arith
+
+-- with the next one
+pub bits_next : (i : ℕ) (bs : List Bool) → i < length bs → bits_number (take (suc i) bs) ≡ bool_byte (get_or bs i false) * 2 ^ i + bits_number (take i bs)
+unfolding bits_number
+bits_next i [] h = absurd (not-suc-le-zero h)
+bits_next zero (b ∷ bs) h = rw (byte_bit b) (omega arith)
+bits_next (suc i) (b ∷ bs) h = rw (bits_next i bs (le_of_suc-le-suc h), pow-suc 2 i, double (get_or bs i false) (2 ^ i)) (omega arith)

@@ -1,30 +1,30 @@
--- `encoding::bits_of` meets its contract: the bits from the last down. Assumes nothing.
-use borrow.Author.Tests.{tests}
+-- `encoding::bits_of` meets its contract: each turn brings one bit above those before it. Assumes nothing.
+use Rattle.std.proofs.Common.{rules, arith, ◌≡◌, sym, refl, ◌<◌, ℕ, suc, Bool, List, length, ◌+◌, ◌*◌, ◌%◌, ◌^◌}
+use native.Mathlib.Nat.{mod-eq_of_lt}
+use native.Mathlib.Numerals.{add-one}
+use mathlib.Core.Bool.{false}
 use mir.Val.{bool_byte}
-use native.Mathlib.Nat.{le_of_suc-le-suc}
-use Rattle.std.proofs.Common.{rules, arith, ◌≡◌, ◌∙◌, refl, ◌≤◌, ℕ, Bool, List, [], ◌∷◌, length, ◌+◌, ◌*◌, ◌%◌}
-use mathlib.Core.List.{reverse}
-use Rattle.std.specs.List.{fold}
-use Rattle.std.proofs.lemmas.Grind.{fold-append, reverse_onto}
-use Rattle.std.proofs.lemmas.Iterator.Consumers.{fold_from_yields_List}
-use Rattle.std.proofs.lemmas.Iterator.Adapters.{YieldsList-from_rev_slice}
+use lib.ListN.{take, get_or}
+use Rattle.std.specs.Int.Bits.{bit_or, or_shifted_r}
 use Rattle.lists.specs.Numbers.{bits_number}
-use Rattle.lists.proofs.Bits.{bits_more}
+use Rattle.lists.proofs.Bits.{bits_below, bits_next}
 use Rattle.encoding.proofs.bits_of.Goals as goal
+use Rattle.encoding.proofs.bits_of.Goals.{Start}
 
--- one bit more below those counted
-abbrev one_more : ℕ → Bool → ℕ
-one_more n b = bool_byte b + 2 * (n % 32768)
+long : (c : Start) → length c.args.bs ≡ 16
+long c = search rules
 
-from_last : (bs : List Bool) → length bs ≤ 16 → fold one_more 0 (reverse bs) ≡ bits_number bs
+-- one bit put above i others
+above : (bs : List Bool) (i : ℕ) → length bs ≡ 16 → i < 16 → bit_or (bits_number (take i bs)) (bool_byte (get_or bs i false) * 2 ^ i % 65536) ≡ bits_number (take (i + 1) bs)
+above bs i l h =
+    let next = bits_next i bs (omega (arith, l)) in
+    let fits : bool_byte (get_or bs i false) * 2 ^ i < 65536 = omega (arith, next, bits_below 16 (take (suc i) bs) (search rules)) in
+    rw (mod-eq_of_lt fits, or_shifted_r (bool_byte (get_or bs i false)) i (bits_number (take i bs)) (bits_below i (take i bs) (search rules)), add-one) (sym next)
+
+pub loop-i-init : goal.loop-i-init
 unfolding bits_number
-from_last [] h = refl
-from_last (b ∷ bs) h =
-    let fewer : length bs ≤ 15 = le_of_suc-le-suc h in
-    rw (reverse_onto bs b [], fold-append one_more 0 (reverse bs) (b ∷ []), from_last bs (omega arith)) (bits_more b bs fewer)
+loop-i-init c = (omega arith, refl)
 
-pub returns : goal.returns
-returns c =
-    let all : c.rev.result.iter.rest.now ≡ c.args.bs = rw c.rev.ensures.source c.iter.ensures.rest in
-    let sixteen : length c.args.bs ≡ 16 = search rules in
-    fold_from_yields_List _ one_more _ _ c.fold.ensures.ran (YieldsList-from_rev_slice c.args.bs all) (λ a x b q k. search (rules, tests)) ∙ from_last c.args.bs (omega arith)
+pub loop-i-preserved : goal.loop-i-preserved
+loop-i-preserved c =
+    (omega arith, rw (c.from.ensures, c.loop-i.invariant.1) (above c.args.bs c.loop-i.i (long (goal.at.loop-i-preserved c).Start) (omega arith)))
