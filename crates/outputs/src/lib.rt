@@ -5,7 +5,6 @@ ghost use Rattle.std.specs.Prelude.{◌≡◌, map};
 ghost use Rattle.model.specs.State.{output};
 ghost use Rattle.model.specs.Times.{half_second_samples, second_samples};
 ghost use Rattle.model.specs.Outputs.{pulsed, remaining};
-ghost use Rattle.outputs.specs.Passes.{any_pulse};
 
 use model::{HalfSeconds, Output, Seconds};
 
@@ -37,32 +36,20 @@ pub fn start(on: bool, samples: u32) -> Output
     Output { on, left: samples }
 }
 
-// One output after one sample: the last one of its pulse inverts it.
+// One output after one sample: the last one of its pulse inverts it. Without a branch: by `match` the sample call took 15.9 ns for 11.2.
 #[tactic(auto, unfolding(model::specs::Outputs::pulsed))]
 pub fn pulse(o: Output) -> Output
     ensures { result ≡ pulsed o }
 {
-    match o.left {
-        0 => o,
-        1 => set(!o.on),
-        left => start(o.on, left - 1),
+    Output {
+        on: o.on != (o.left == 1),
+        left: o.left.saturating_sub(1),
     }
 }
 
-// Whether any output has a pulse. A loop: by `any` the sample call took 42.1 ns for 40.3 on the typical load, which it is held to
-// (52.7 for 63.1 on the full one).
-pub fn any_pulse(a: [Output; 16]) -> bool
-    ensures { result ≡ any_pulse a }
-{
-    let mut found = false;
-    for o in a {
-        found = found | (o.left != 0);
-    }
-    found
-}
-
-// Every output after one sample. A loop: by `map` the sample call took 86 ns for 40.
-pub fn pulse_all(a: [Output; 16]) -> [Output; 16]
+// Every output after one sample. A loop: by `map` the sample call took 83 ns for 11. Always: left out without a pulse, it took 31 for
+// 14 in the form before that.
+pub fn pulse_outputs(a: [Output; 16]) -> [Output; 16]
     ensures { result ≡ map pulsed a }
 {
     let mut next = a;
@@ -70,16 +57,6 @@ pub fn pulse_all(a: [Output; 16]) -> [Output; 16]
         *o = pulse(*o);
     }
     next
-}
-
-// The same. Without a pulse no output moves, and the pass over them is left out.
-pub fn pulse_outputs(a: [Output; 16]) -> [Output; 16]
-    ensures { result ≡ map pulsed a }
-{
-    if any_pulse(a) {
-        return pulse_all(a);
-    }
-    a
 }
 
 // The remaining time of a pulse: the half seconds that have not ended, at most 255.
