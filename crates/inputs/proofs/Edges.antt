@@ -2,7 +2,10 @@
 use Prim.Native.Nat.{ℕ}
 use native.Mathlib.Omega.{arith}
 use mathlib.Core.Path.{◌≡◌, refl, sym, ap, ◌∙◌}
-use mathlib.Core.Bool.{Bool, true, false, ◌&&◌, beq}
+use mathlib.Core.Bool.{Bool, true, false, not, ◌&&◌, beq}
+use lib.Dec.{eqb}
+use borrow.Author.Tests.{not-false, eqb-true}
+use Rattle.lists.proofs.Choices.{or_left, or_right}
 use Rattle.std.specs.Prelude.{Some, None}
 use mathlib.Core.List.{List, [], ◌∷◌}
 use lib.ListN.{length, get_or}
@@ -14,9 +17,9 @@ use Rattle.lists.proofs.Done.{get_or-mapi, length-mapi}
 use Rattle.lists.proofs.Somes.{some_any, some_false, some_of, none_below, mapi-alike, mapi-same}
 use Rattle.model.specs.declared.Inputs.{Inputs}
 use Rattle.model.specs.declared.Line.{Line}
-use Rattle.model.specs.State.{fresh_line}
-use Rattle.model.specs.Samples.{is_edge, edges, selected_edge, counted, lines_sampled, counters_sampled}
-use Rattle.inputs.specs.Passes.{any_masked, selected_lines, sampled_of}
+use Rattle.model.specs.State.{line, fresh_line}
+use Rattle.model.specs.Samples.{is_edge, edges, selected_edge, counted, line_sampled, lines_sampled, counters_sampled}
+use Rattle.inputs.specs.Passes.{any_masked, selected_lines, is_moving, any_moving, sampled_of}
 
 -- a list has a `true` where one of its tests passed
 pub has_true : (l : List Bool) → list_any (λ y. beq y true) l ≡ any (λ b. b) l
@@ -65,3 +68,28 @@ module _ (bits number : ℕ) (modes : List ℕ) (x : Inputs) (now : List Line) (
       let long : length x.lines ≡ length x.counters = sym (length-mapi _ x.lines) ∙ ap length (sym e) ∙ l in
       let none : any (λ b. b) (edges x.lines now) ≡ false = ap (any (λ b. b)) (sym q) ∙ sym p in
       no_edges x.counters (sym (no_edge x.lines now modes x.counters long none)) p
+
+-- a line that a sample cannot change is as it was after it
+still_line : (number : ℕ) (bit : Bool) (x : Line) → is_moving bit x ≡ false → line_sampled number bit x ≡ x
+unfolding line_sampled
+still_line number bit x h =
+    let same : beq bit x.stable ≡ true = not-false _ (or_left (not (beq bit x.stable)) (not (eqb x.run 0)) h) in
+    let none : x.run ≡ 0 = eqb-true _ _ (not-false _ (or_right (not (beq bit x.stable)) (not (eqb x.run 0)) h)) in
+    rw same (ap (line x.stable) (sym none))
+
+-- and so are they all
+pub still : (number bits : ℕ) (xs : List Line) → any_moving bits xs ≡ false → xs ≡ lines_sampled number bits xs
+unfolding any_moving lines_sampled
+still number bits xs h =
+    let none = sym (some_any (λ i x. is_moving (bit_at bits i) x) xs fresh_line) ∙ h in
+    sym (mapi-same _ xs fresh_line (λ i l. still_line number (bit_at bits i) (get_or xs i fresh_line) (some_false (λ k. is_moving (bit_at bits k) (get_or xs k fresh_line)) (length xs) i none l)))
+
+-- lines that are as they were have no edge
+pub no_own_edge : (xs : List Line) → false ≡ any (λ b. b) (edges xs xs)
+unfolding edges
+no_own_edge xs =
+    sym (some_any (λ i x. is_edge x (get_or xs i fresh_line)) xs fresh_line ∙ none_below _ (length xs) (λ i l. rw (same_state (get_or xs i fresh_line).stable)))
+  where
+    same_state : (b : Bool) → beq b b ≡ true
+    same_state true = refl
+    same_state false = refl

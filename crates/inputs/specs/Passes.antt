@@ -1,5 +1,6 @@
 -- What the passes over the lines give.
-use Rattle.std.specs.Prelude.{ℕ, Bool, false, cond, ◌&&◌, List, map, get_or, Option, Some, None}
+use Rattle.std.specs.Prelude.{ℕ, Bool, false, cond, not, ◌&&◌, ◌||◌, List, map, eqb, get_or, Option, Some, None}
+use Rattle.std.specs.Bool.{beq}
 use Rattle.lists.specs.Tests.{any}
 use Rattle.lists.specs.Mapi.{mapi}
 use Rattle.lists.specs.Numbers.{bit_at, bits_number}
@@ -14,6 +15,14 @@ use Rattle.inputs.specs.declared.Sampled.{Sampled}
 -- some line that the mask picks has an edge
 unfoldable pub any_masked : ℕ → List Bool → Bool
 any_masked mask edged = any (λ b. b) (mapi (λ i b. b && bit_at mask i) edged)
+
+-- a sample with this bit can change the line: the bit is not its stable state, or it has a run
+abbrev pub is_moving : Bool → Line → Bool
+is_moving bit x = not (beq bit x.stable) || not (eqb x.run 0)
+
+-- it can change some line
+unfoldable pub any_moving : ℕ → List Line → Bool
+any_moving bits xs = any (λ b. b) (mapi (λ i x. is_moving (bit_at bits i) x) xs)
 
 -- the stable states as a number
 unfoldable pub stable_bits : List Line → ℕ
