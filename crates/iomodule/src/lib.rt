@@ -10,6 +10,7 @@ ghost use Rattle.model.specs.Wire.{frame_handled, frame_call};
 ghost use Rattle.model.specs.Calls.{sample_call, temperature_call, spinel_call, modbus_call, answer_of, Answered};
 ghost use Rattle.model.specs.Demand1.{RefusalsHold};
 ghost use Rattle.model.specs.Cycles.{CyclesConserved, CyclesConservedFrom};
+ghost use Rattle.sampling.specs.Parts.{bytes_of};
 
 use modbus::ModbusWire;
 use model::{Answer, Module, Refusal};
@@ -42,18 +43,39 @@ fn no_room(m: Module) -> Answer
     }
 }
 
-// The answer to what was handled. Its reply is written to the lent buffer, by the one line that writes one.
+// Bytes to the lent buffer, by the one line that writes it; and how many they are.
+fn write_out(bytes: &[u8], reply: &mut [u8]) -> usize
+    requires { length bytes.now ≤ length reply.old }
+    ensures value { result ≡ length bytes.now }
+    ensures reply_after { reply.new ≡ over bytes.now reply.old }
+{
+    reply[..bytes.len()].copy_from_slice(bytes);
+    bytes.len()
+}
+
+// The answer to a frame that was handled, and its reply written.
 fn reply_out(h: Handled, reply: &mut [u8]) -> Answer
     requires { (h.reply.len ≤ 256) × (h.reply.len ≤ length reply.old) }
     ensures value { result ≡ record { refusal = refusal_in h.refusal; len = h.reply.len; after = h.after } }
     ensures reply_after { reply.new ≡ over (bytes_in h.reply) reply.old }
 {
-    let bytes = h.reply.as_slice();
-    reply[..bytes.len()].copy_from_slice(bytes);
+    let len = write_out(h.reply.as_slice(), reply);
     Answer {
         refusal: h.refusal.map_or(0, Refusal::number),
-        len: bytes.len(),
+        len,
         after: h.after,
+    }
+}
+
+// The notice of a sample written, where there is one; how many bytes it has.
+fn notice_out(notice: Option<[u8; 11]>, reply: &mut [u8]) -> usize
+    requires { 11 ≤ length reply.old }
+    ensures value { result ≡ length (bytes_of notice) }
+    ensures reply_after { reply.new ≡ over (bytes_of notice) reply.old }
+{
+    match notice {
+        Some(frame) => write_out(&frame, reply),
+        None => 0,
     }
 }
 
@@ -77,7 +99,13 @@ pub fn sample(m: Module, bits: u16, reply: &mut [u8]) -> Answer
     if is_short(reply.len()) {
         return no_room(m);
     }
-    reply_out(sampling::handle(m, bits), reply)
+    let s = sampling::handle(m, bits);
+    let len = notice_out(s.notice, reply);
+    Answer {
+        refusal: 0,
+        len,
+        after: s.after,
+    }
 }
 
 // The temperature sample: whether the value is good, and its tenths, which 01 gives with a bad one too. It has no buffer and no

@@ -4,7 +4,8 @@
 ghost use Rattle.std.specs.Prelude.{◌≡◌, ◌+◌, ◌≤◌, ◌++◌, length, take};
 ghost use Rattle.std.proofs.Math.Seq.{paste};
 ghost use Rattle.lists.specs.Data.{padded, data_of};
-ghost use Rattle.model.specs.Frames.{modbus_reply, exception_function, exception_reply};
+ghost use Rattle.lists.specs.Numbers.{bytes};
+ghost use Rattle.model.specs.Frames.{spinel_reply, modbus_reply, exception_function, exception_reply};
 ghost use Rattle.model.specs.Refusals.{ack_of, exception_of};
 ghost use Rattle.replies.specs.Replies.{spinel_replied, modbus_replied};
 
@@ -80,6 +81,19 @@ pub fn spinel_reply(address: u8, signature: u8, ack: u8, d: Data) -> Data
         items: bytes,
         len: end + 2,
     }
+}
+
+// A Spinel reply whose data are one word, in an array of its own size, where reply data would clear and copy 256 bytes.
+pub fn word_reply(address: u8, signature: u8, ack: u8, word: u16) -> [u8; 11]
+    ensures { result ≡ spinel_reply address signature ack (bytes 2 word) }
+{
+    let high = encoding::high_byte(word);
+    let low = encoding::low_byte(word);
+    let head = [0x2A, 0x61, 0x00, 0x07, address, signature, ack, high, low];
+    let sum = checksum::spinel_sum(&head);
+    [
+        0x2A, 0x61, 0x00, 0x07, address, signature, ack, high, low, sum, 0x0D,
+    ]
 }
 
 // Address, function and body, then their CRC, low byte first.

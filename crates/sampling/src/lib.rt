@@ -2,24 +2,20 @@
 #![tactic(auto)]
 
 ghost use Rattle.std.specs.Prelude.{◌≡◌, cond, []};
-ghost use Rattle.lists.specs.Data.{data_of};
 ghost use Rattle.model.specs.Notice.{notice_frame};
 ghost use Rattle.model.specs.Temperature.{reading_of, taken};
 ghost use Rattle.model.specs.Calls.{sampled};
 ghost use Rattle.inputs.specs.Passes.{noticed_in};
-ghost use Rattle.outcomes.specs.Parts.{handling, handled_of};
+ghost use Rattle.sampling.specs.Parts.{bytes_of, out_of};
 
 use inputs::Sampled;
-use lists::Data;
-use model::{Inputs, Module, Notice};
-use outcomes::Handled;
+use model::{Module, Notice};
 
-// The notice's frame, made as a reply is: ACK 0DH, and the states as its data.
-fn notice_frame(address: u8, n: Notice, x: Inputs) -> Data
-    ensures { result ≡ data_of (notice_frame address n x) }
-{
-    let states = encoding::push16(encoding::empty(), inputs::stable_bits(x.lines));
-    replies::spinel_reply(address, n.signature, 0x0D, states)
+// What a sample comes to, whatever the lent buffer: the state after, and the notice's frame, where one is due.
+#[derive(Drop)]
+pub struct AfterSample {
+    pub after: Module,
+    pub notice: Option<[u8; 11]>,
 }
 
 // Whether a notice is due after these edges.
@@ -33,32 +29,29 @@ fn notice_due(n: Notice, edges: Option<[bool; 16]>) -> bool
     }
 }
 
-// The notice that the sampled inputs make due, or no bytes.
-fn notice(address: u8, n: Notice, s: Sampled) -> Data
-    ensures { result ≡ data_of (cond (noticed_in n s.edges) (notice_frame address n s.inputs) []) }
+// The notice that the sampled inputs make due, a reply with ACK 0DH and the states as its data.
+fn notice(address: u8, n: Notice, s: Sampled) -> Option<[u8; 11]>
+    ensures { bytes_of result ≡ cond (noticed_in n s.edges) (notice_frame address n s.inputs) [] }
 {
     if notice_due(n, s.edges) {
-        return notice_frame(address, n, s.inputs);
+        let states = inputs::stable_bits(s.inputs.lines);
+        return Some(replies::word_reply(address, n.signature, 0x0D, states));
     }
-    encoding::empty()
+    None
 }
 
-// What a sample comes to, whatever the lent buffer: debounce and counting, the notice, and one step of every pulse. No path of
-// its own for a notice: two ways out would copy the settings.
-pub fn handle(m: Module, bits: u16) -> Handled
-    ensures { handling result ≡ handled_of (sampled bits m) }
+// Debounce and counting, the notice, and one step of every pulse. Reads the sampling number and the notice's mask once each, and
+// gives them on (E3). No path of its own for a notice: two ways out would copy the settings.
+pub fn handle(m: Module, bits: u16) -> AfterSample
+    ensures { out_of result ≡ sampled bits m }
 {
     let s = inputs::sample(m.settings.sampling, m.settings.modes, m.inputs, bits);
-    let reply = notice(m.spinel.address, m.settings.notice, s);
+    let notice = notice(m.spinel.address, m.settings.notice, s);
     let pulsed = outputs::pulse_outputs(m.outputs);
     let mut after = m;
     after.inputs = s.inputs;
     after.outputs = pulsed;
-    Handled {
-        refusal: None,
-        after,
-        reply,
-    }
+    AfterSample { after, notice }
 }
 
 // The state after a temperature sample: thermostats act, and a valid reading is remembered.

@@ -1,18 +1,21 @@
 -- `iomodule::sample` meets its contract. Assumes nothing.
-use Rattle.std.proofs.Common.{sym, ◌∙◌, length, arith}
+use Rattle.std.proofs.Common.{sym, ◌∙◌, length, arith, ap}
 use borrow.Author.Tests.{ltb-false}
-use Rattle.model.specs.Calls.{sampled, sample_call}
-use Rattle.iomodule.proofs.Frames.{sample_room, handled_short, handled_answered}
+use Rattle.lists.specs.Data.{over}
+use Rattle.model.specs.Refusals.{Out}
+use Rattle.model.specs.Calls.{sample_call, answer_of}
 use Rattle.iomodule.proofs.sample.Goals as goal
 
-pub reply_out-requires : goal.reply_out-requires
-reply_out-requires c =
-    let a = c.args in
-    let short = handled_short (sampled a.bits a.m) c.handle.result c.handle.ensures (sample_room a.bits a.m) in
-    omega (arith, short, ltb-false (length a.reply.now) 256 (sym c.is_short.ensures ∙ c.if-is_short.false))
+pub notice_out-len-requires : goal.notice_out-len-requires
+notice_out-len-requires c =
+    omega (arith, ltb-false (length c.args.reply.now) 256 (sym c.is_short.ensures ∙ c.if-is_short.false))
 
 pub returns : goal.returns
 unfolding sample_call
 returns c =
     let a = c.args in
-    rw (sym c.is_short.ensures ∙ c.if-is_short.false) (handled_answered (sampled a.bits a.m) c.handle.result c.handle.ensures _ _ _ c.reply_out.ensures.value c.reply_out.ensures.reply_after)
+    rw (sym c.is_short.ensures ∙ c.if-is_short.false)
+    (record {
+      answer = rw c.notice_out-len.ensures.value (ap answer_of c.handle-s.ensures);
+      buffer = c.notice_out-len.ensures.reply_after ∙ ap (λ (o : Out). over o.reply a.reply.now) c.handle-s.ensures;
+    })

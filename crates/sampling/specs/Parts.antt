@@ -1,0 +1,13 @@
+-- A sample's outcome as the definitions have it.
+use Rattle.std.specs.Prelude.{ℕ, List, [], Option, Some, None}
+use Rattle.model.specs.Refusals.{Out}
+use Rattle.sampling.specs.declared.AfterSample.{AfterSample}
+
+-- the bytes of a notice, none where there is no notice
+abbrev pub bytes_of : Option (List ℕ) → List ℕ
+bytes_of (Some frame) = frame
+bytes_of None = []
+
+-- a sample with room for a notice is not refused
+abbrev pub out_of : AfterSample → Out
+out_of s = record { refusal = 0; after = s.after; reply = bytes_of s.notice }
