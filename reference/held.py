@@ -1,7 +1,7 @@
 """What the definitions are held to, in a form that a changed definition can be tried on.
 
-Rows: the cases, the tallies and the rows about claims of rows.py, and the equations of the files Readings, Puts
-and GroupTable of crates/model/proofs.
+Rows: the cases, the tallies, the rows about claims and those about one input of rows.py, and the equations of the files Readings,
+Puts and GroupTable of crates/model/proofs.
 Programs: the scripts of rack and scenarios with their stored outputs. What is proved of every state and call is in laws.py.
 
 Each is first tried on the definitions as they are, and notes which of them it calls: a change of another one cannot matter there.
@@ -28,7 +28,7 @@ class World:
     def __init__(self):
         self.definitions = Definitions()
         # the names in the states that cases start from
-        self.definitions.scopes["rows"] = {**self.definitions.scopes["State"], **self.definitions.scopes["Wraps"]}
+        self.definitions.scopes["rows"] = {name: key for file in ("State", "Wraps", "AloneTable") for name, key in self.definitions.scopes[file].items()}
         self.calling = set()
         self.plain, self.traced = self.definitions.functions(), self.definitions.functions(self.calling)
         for kind in ("spinel", "modbus"):
@@ -269,6 +269,32 @@ class Claim(Fact):
 def claims(world):
     """The rows about claims of rows.py."""
     return [Claim(world, *row).noted() for row in rows.LEFT + rows.RESETS]
+
+
+def sampled(listed):
+    """Samples by the bytes lent and the bits, as the definitions have them."""
+    return tuple({"room": room, "bits": bits} for room, bits in listed)
+
+
+class Alone(Fact):
+    """What samples bring one input: its accepted bits, or what the module then holds of it."""
+
+    def __init__(self, world, name, _, k, start, listed, wanted):
+        super().__init__(world, "AloneTable." + name, "row")
+        self.k, self.start, self.samples, self.wanted = k, start, sampled(listed), wanted
+
+    def differs(self, values, key):
+        """By the whole list of samples."""
+        state = self.world.state(self.start, values)
+        if isinstance(self.wanted, list):
+            return values[python("Alone.accepted_bits")](self.k, state, self.samples) != tuple(self.wanted)
+        after = values[python("Calls.run")](state, values[python("Alone.sample_calls")](self.samples))
+        return values[python("AloneTable.four")](self.k, after) != values[python("AloneTable.view")](*self.wanted)
+
+
+def alone(world):
+    """The rows about one input of rows.py."""
+    return [Alone(world, *row).noted() for row in rows.ALONE]
 
 
 class Replies(Fact):

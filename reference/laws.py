@@ -1,10 +1,12 @@
 """What is proved of every state and call, tried on the states and calls of the cases: Refusals and Permissions of Demand1, PartsKept of
-Parts, Conserved of Cycles, and the step of Wraps; how every request is judged, tried on each set of the conditions 7 to 13; and
-SettingKept and HeatKept of Temperature, on settings with every byte of flags.
+Parts, Conserved of Cycles, and the step of Wraps; how every request is judged, tried on each set of the conditions 7 to 13;
+SettingKept and HeatKept of Temperature, on settings with every byte of flags; and OneInputAlone of Alone, on pairs of modules.
 """
 import itertools
+import random
 
-from held import Fact, Held
+import rows
+from held import Fact, Held, sampled
 from translate import python
 
 LIMIT = 4294967296  # a counter is below it
@@ -106,6 +108,66 @@ class Turn(Fact):
         return f("Calls.run", f("Wraps.counted", self.count), cycle) != f("Wraps.counted", (self.count + 2) % LIMIT)
 
 
+class OneInputAlone(Fact):
+    """OneInputAlone: modules of one sampling number that agree in input k do so after samples that bring it the same accepted bits."""
+
+    def __init__(self, world, name, k, holds, *sides):
+        """A side is a module as text, and samples; `holds`: are they such modules and samples?"""
+        super().__init__(world, "OneInputAlone on " + name, "law")
+        self.k, self.holds = k, holds
+        self.sides = [(world.state(start, world.plain), sampled(listed)) for start, listed in sides]
+
+    def four(self, f, m):
+        """What they agree in."""
+        line = f("Alone.line_of", m, self.k)
+        return line["stable"], line["run"], f("Alone.mode_of", m, self.k), f("Cycles.counter_of", m, self.k)
+
+    def asked(self, f):
+        """Does all hold that the claim asks for?"""
+        (m, ss), (n, ts) = self.sides
+        return (self.k <= min(len(part) for one in (m, n) for part in (one["inputs"]["lines"], one["inputs"]["counters"]))
+                and m["settings"]["sampling"] == n["settings"]["sampling"] and self.four(f, m) == self.four(f, n)
+                and f("Alone.accepted_bits", self.k, m, ss) == f("Alone.accepted_bits", self.k, n, ts))
+
+    def differs(self, values, key):
+        """They may have come to differ only where something was not as asked."""
+        f = naming(values)
+        one, other = (self.four(f, f("Calls.run", m, f("Alone.sample_calls", ss))) for m, ss in self.sides)
+        return one != other and self.asked(f)
+
+    def noted(self):
+        """Such a pair, or none, as it was meant."""
+        if self.asked(naming(self.world.plain)) != self.holds:
+            raise ValueError("%s is not as it was meant" % self.name)
+        return super().noted()
+
+
+def among(chance, k, bits):
+    """Samples that bring input k these bits, whatever they bring the others, refused ones among them."""
+    listed = []
+    for bit in bits:
+        listed += [(chance.choice((0, 1, 128, 255)), chance.getrandbits(16)) for _ in range(chance.choice((0, 0, 0, 1, 2)))]
+        listed.append((chance.choice((256, 256, 257, 65536)), chance.getrandbits(16) & ~(1 << k - 1) | bit << k - 1))
+    return listed + [(255, chance.getrandbits(16)) for _ in range(chance.choice((0, 1)))]
+
+
+def input_of(chance, number):
+    """An input: is it on, its run (often the last before an edge), its mode and its counter."""
+    return chance.getrandbits(1), max(0, number - chance.randint(1, 4)), chance.randrange(4), chance.choice((0, 255, 65535, LIMIT - 2, LIMIT - 1))
+
+
+def pairs(count):
+    """Pseudo-random modules that agree in an input, each with samples; now and then one brings it a bit more than the other, or none alike."""
+    chance = random.Random(3)
+    for at in range(count):
+        k, number = chance.randint(1, 16), chance.choice((1, 1, 2, 3, 20, 255))
+        own, bits = input_of(chance, number), [chance.getrandbits(1) for _ in range(chance.randrange(9))]
+        others = {1: [*bits, 1], 4: [1 - bit for bit in bits] or [0]}.get(at % 6, bits)
+        sides = [(rows.standing(chance.choice(list(rows.AROUND)), number, k, own, lambda _: input_of(chance, number))[0], among(chance, k, brought))
+                 for brought in (bits, others)]
+        yield "random pair %d" % (at + 1), k, others == bits, *sides
+
+
 # Laws about thermostats' settings -----------------------------------------------------------
 
 class SettingKept(Fact):
@@ -180,6 +242,8 @@ def laws(world, cases):
     short = [case for case in cases if case.start == "fresh_module" and sum(count for line in case.lines for _, count in line.calls) <= LONG]
     yield from (Conserved(world, case).noted() for case in short)
     yield from (Turn(world, count).noted() for count in (0, 254, 65534, LIMIT - 3, LIMIT - 2, LIMIT - 1))
+    yield from (OneInputAlone(world, one[0], one[2], True, one[3:5], other[3:5]).noted() for one, other in rows.PAIRS)
+    yield from (OneInputAlone(world, *pair).noted() for pair in pairs(48))
     yield from (SettingKept(world, flags).noted() for flags in range(256))
     heated = [case for case in cases if any(one["act"][0] == "temperature" for line in case.lines for one, _ in line.calls)]
     yield from (HeatKept(world, case).noted() for case in heated)

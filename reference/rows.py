@@ -1,8 +1,12 @@
 """The closed cases that the tables of crates/model/proofs hold the definitions to: lists of calls, written from documents 01 and 02.
 
 A case is a name, what it shows, the state it starts from, and its calls. What the calls answer is worked out by module.py; typed here are
-the cases A to J of the rack, cases that do not start from a fresh module, the tally's numbers, and the rows about claims. tables.py writes the cases as antt; sweep plays them on changed definitions.
+the cases A to J of the rack, cases that do not start from a fresh module, the tally's numbers, and the rows about claims. What a module
+holds of one input after some samples is worked out by module.py from the states given here. tables.py writes the cases as antt; sweep plays
+them on changed definitions.
 """
+import copy
+import itertools
 import re
 import sys
 
@@ -76,6 +80,42 @@ def samples(*bits):
 def doors(times, *bits):
     """The samples in turn, so many times over."""
     return ("doors", list(bits), times)
+
+
+def set_modes(of):
+    """6AH for all sixteen inputs, in two lists; a mode for each number."""
+    return [S(0x6A, *[b for k in numbers for b in (k, of(k))]) for numbers in (range(1, 13), range(13, 17))]
+
+
+# eight groups of inputs: of any two inputs each is once in a group and the other not
+GROUPS = 0x5555, 0xAAAA, 0x3333, 0xCCCC, 0x0F0F, 0xF0F0, 0x00FF, 0xFF00
+
+
+def by_groups(row, *groups):
+    """Some groups, an even number of them, each from where all inputs are off and from where all are on."""
+    return [c for at, group in enumerate(groups + groups[1:] + groups[:1]) for c in row(group, at % 2 * 0xFFFF)]
+
+
+def staggered(group, alike):
+    """Number 4: a group begins two samples before the others. Its edge; the others' third differing sample in a row; their fourth."""
+    first, turned = alike ^ group, alike ^ 0xFFFF
+    return [P(first, 2), P(turned, 3), S(0x31), P(turned), S(0x31)]
+
+
+def staggered_singly(group, alike):
+    """The same, where a notice may come with an edge."""
+    first, turned = alike ^ group, alike ^ 0xFFFF
+    return [P(first, 2), *samples(turned, turned, turned), S(0x31), P(turned), S(0x31)]
+
+
+# input 1 and up flip, then 2 and up, and so on: input k flips k times
+STAIRS = [0xFFFF, 0x0001, 0xFFFD, 0x0005, 0xFFF5, 0x0015, 0xFFD5, 0x0055, 0xFF55, 0x0155, 0xFD55, 0x0555, 0xF555, 0x1555, 0xD555, 0x5555]
+
+
+def some_behind(number, alike):
+    """Ten inputs, at both ends and between, begin one sample before the six others. Their edge, and that of the others one sample later."""
+    first, turned = alike ^ 0xD557, alike ^ 0xFFFF
+    return [S(0x62, number), P(first), P(turned, number - 1), S(0x31), P(turned), S(0x31)]
 
 
 def T(tenths):
@@ -188,9 +228,9 @@ def state(part, text):
     return f"(with_{part} fresh_module ({text}))"
 
 
-def inputs(lines, modes, counters, number):
-    """A fresh module with other inputs, modes and sampling number."""
-    settings = f"(with_sampling (with_modes fresh_module ({modes})) {number})"
+def inputs(lines, modes, counters, number, of="fresh_module"):
+    """A fresh module, or another one, with other inputs, modes and sampling number."""
+    settings = f"(with_sampling (with_modes {of} ({modes})) {number})"
     return f"(with_inputs {settings} (record {{ lines = {lines}; counters = {counters} }}))"
 
 
@@ -370,6 +410,21 @@ SAMPLES = [
           counting(255, 65535, 0x00FFFFFF, 4294967295, 65535, 0),
           (P(15), QUIET), (S(0x60, 1, 2, 3, 4, 5), ack(0x20, 0, 0, 1, 0, 0, 1, 0, 0, 1, 0, 0, 0, 0, 0, 0, 0, 0, 0, 0xFF, 0xFF)),
           (P(0), QUIET), (S(0x60, 0), counts(257, 65537, 0x01000001, 1, 65535, *[0] * 11)), (R(3, 100, 6), shown(257, 1, 1, 1, 65535, 0))),
+    case("edge_ends_no_run", "slip (E3): an edge that restarts or lengthens a run elsewhere. Number 4: a group flips while the others' run is 2; they flip two samples later",
+         set_modes(lambda k: 3), S(0x62, 4), by_groups(staggered, *GROUPS), S(0x60, 0)),
+    case("own_mode", "slip (E3): a counter that goes by a mode elsewhere. No two inputs have both modes alike; two rising edges and a falling one, then the reverse",
+         set_modes(lambda k: k % 4), S(0x62, 1), samples(0xFFFF, 0, 0xFFFF), S(0x60, 0x80), set_modes(lambda k: k // 4 % 4), samples(0, 0xFFFF, 0), S(0x60, 0)),
+    case("goes_on_behind_edges", "slip (E3): the pass over the inputs ends at an edge, from either end. Number 2: 1 and 16 flip; between, a run begins, and one is ended",
+         set_modes(lambda k: 3), S(0x62, 2), samples(0x8001, 0xFFFF), S(0x31), samples(0xFFFF), S(0x31), samples(0, 0x7FFE, 0), S(0x31), samples(0), S(0x31), S(0x60, 0)),
+    case("by_own_edges", "slip (E3): a counter that moves with an edge elsewhere, or by all of a sample. Sixteen samples, one input fewer flips in each: 1 to 16 edges",
+         set_modes(lambda k: 3), S(0x62, 1), doors(1, *STAIRS), S(0x60, 0)),
+    typed("limit_stays_inside", "slip (E3): what passes the limit is carried elsewhere. All at 4,294,967,295: edges of all, of the odd, of the rest", counting(4294967295),
+          (P(0xFFFF), QUIET), (S(0x60, 0), counts(*[0] * 16)), (P(0xAAAA), QUIET), (S(0x60, 0), counts(*[1, 0] * 8)), (P(0), QUIET), (S(0x60, 0), counts(*[1] * 16))),
+    case("one_number", "slip (E3): another sampling number behind an edge. Numbers 2, 3 and 20: ten inputs flip in one sample, six in the next", set_modes(lambda k: 3),
+         some_behind(2, 0), some_behind(3, 0xFFFF), some_behind(20, 0), S(0x60, 0)),
+    case("refused_amid_run", "slip (E3): a refused sample that lengthens a run or ends it, of differing bits or equal ones. Number 3; 256 bytes and more are accepted",
+         S(0x6A, 1, 3, 2, 3), S(0x62, 3), P(1, room=256), P(1, room=255), P(3, room=0), P(1, room=257), S(0x31), P(1, room=255), P(1, room=65536), S(0x31),
+         P(0), P(1, room=255), P(3, room=254), P(0, room=511), [P(2, room=255)] * 3, S(0x31), P(0, room=255), P(0), S(0x31), P(2, 2), P(0, room=1), P(2), S(0x31), S(0x60, 1, 2)),
 ]
 
 # Counters over Spinel --------------------------------------------------------------------
@@ -629,6 +684,12 @@ NOTICES = [
          S(0x62, 1), S(0x10, 1), S(0x23, 1, 0x81), P(0, 499), samples(1), S(0x30)),
     case("any_sum_notice", "SUM untested (E5): 10H with a wrong SUM turns it on and off; the notice has a right SUM",
          S(0x62, 1), UNTESTED, X(0x10, 1, 0, 1, s=7), samples(1), X(0x11), samples(0), X(0x10, 0), samples(1)),
+    case("notice_ends_no_run", "slip (E3): a run that goes by the notice or its mask. Number 4, mask 00FF: edges seen, hidden or both; the others' run is 2, seen or hidden",
+         S(0x62, 4), S(0x10, 1, 0, 0xFF, s=7), by_groups(staggered_singly, 0x5555, 0xAAAA, 0xFF00, 0x00FF)),
+    case("mask_hides_no_count", "slip (E3): a mask that acts on counting. Every mode seen and hidden; samples with a notice, and one without",
+         set_modes(lambda k: k % 4), S(0x62, 1), S(0x10, 1, 0x0F, 0x0F, s=7), samples(0xFFFF, 0, 0xFFFF), S(0x60, 0x80), samples(0x0F0F), S(0x60, 0x80), samples(0xF0F0), S(0x60, 0)),
+    case("mask_among_edges", "slip (E3): a mask laid on one edge of a sample. Input 9 alone: among edges of all, above and below others; edges of all but 9 are silent",
+         S(0x62, 1), S(0x10, 1, 1, 0), samples(0xFFFF, 0x0100, 0xFFFF, 0xFE00, 0x0100, 0x0001, 0x0000)),
 ]
 
 # Temperature ------------------------------------------------------------------------------
@@ -1229,3 +1290,131 @@ RESETS = [
     ("by_read", R(3, 1, 1), False), ("by_coil", R(5, 1, 0), False), ("by07", M(7, 0, 1, 0, 0), False), ("by_coils", C(1, 1, 0), False),
     ("by11", M(0x11, 0, 1, 0, 0), False), ("by_sample", P(0), False), ("by_temperature", T(0), False),
 ]
+
+# One input alone (E3): its accepted bits, and what a module holds of it after some samples -----------------------------
+
+def around(number, outputs, presets, thermostats, notice, readings, tested, *ports):
+    """A module of the reference whose inputs are fresh."""
+    m = reference.Module()
+    for out, pulse, preset, thermostat in zip(m.out, outputs, presets, thermostats):
+        (out.on, out.left), (out.ptype, out.ptime), out.th = pulse, preset, thermostat
+    m.n, (m.notice, m.mask, m.sig), (m.reading, m.last), m.tested = number, notice, readings, tested
+    (m.sa, m.ss, m.sp), (m.ma, m.ms, m.mp) = ports
+    return m
+
+
+# what the inputs stand among: outputs and their pulses, presets, thermostats, the notice, readings, the ports
+AROUND = {
+    "fresh_module": reference.Module(),
+    "busy": around(1, [(1, 2), (0, 1), (1, 0)], [(2, 5), (3, 255), (0, 9)], [(0x81, 300, 200, 0, 1), (0xD1, 0, -5, 9, 2), (0x29, 5, 5, 1, 0)], (True, 0xFFFF, 7),
+                   (250, 250), False, (0x32, 7, True), (5, 3, True)),
+    "hot": around(3, [(0, 500), (1, 3), (0, 0)], [(0, 0), (2, 1), (3, 3)], [(0xA9, 250, 200, 0, 2), (0, 1, 2, 3, 2), (0x81, -1, -2, 0, 0)], (True, 0x0110, 0x5A),
+                  (None, 301), True, (0x31, 6, False), (0x31, 6, True)),
+}
+
+
+def joined(items):
+    """A list as antt, three or more equal neighbours by `replicate`."""
+    text = ""
+    for item, equal in reversed([(item, len(list(equal))) for item, equal in itertools.groupby(map(str, items))]):
+        if equal < 3:
+            text = f"{item} ∷ " * equal + (text or "[]")
+        else:
+            text = f"replicate {equal} " + (f"({item})" if " " in item else item) + (f" ++ {text}" if text else "")
+    return text or "[]"
+
+
+def standing(place, number, k, own, others):
+    """A module as antt and in the reference: one of AROUND with these inputs, each in four parts: is it on, its run, its mode, its counter."""
+    fours = [own if j == k else others(j) for j in range(1, 17)]
+    m = copy.deepcopy(AROUND[place])
+    m.n = number
+    m.stable, m.run, m.mode, m.cnt = (list(part) for part in zip(*fours))
+    lines = ["line %s %d" % ("true" if stable else "false", run) for stable, run, *_ in fours]
+    return inputs(joined(lines), joined(m.mode), joined(m.cnt), number, place), m
+
+
+def accepted(m, k, sampled):
+    """Input k's bits of the samples, by room and bits, that a module accepts when it takes them."""
+    return [bits >> k - 1 & 1 == 1 for room, bits in sampled if m.sample(bits, room)[0] == 0]
+
+
+def bits_of(name, shows, k, sampled, place="fresh_module"):
+    """A row: the accepted bits of input k."""
+    return name, shows, k, place, sampled, accepted(copy.deepcopy(AROUND[place]), k, sampled)
+
+
+def alike(name, shows, k, number, own, *sides):
+    """Two rows: what two modules that agree in input k hold of it after their samples. A side is a place, its other inputs, and samples."""
+    pair, brought = [], []
+    for also, told, (place, others, sampled) in zip(("", "_elsewhere"), (shows, ""), sides):
+        text, m = standing(place, number, k, own, others)
+        brought.append(accepted(m, k, sampled))
+        pair.append((name + also, told, k, text, sampled, (m.stable[k - 1] == 1, m.run[k - 1], m.mode[k - 1], m.cnt[k - 1])))
+    if brought[0] != brought[1] or pair[0][-1] != pair[1][-1]:
+        raise ValueError("%s is no such pair: %s %s" % (name, brought, pair))
+    return pair
+
+
+def fresh_one(_):
+    """Another input as it is fresh."""
+    return 0, 0, 0, 0
+
+
+def each(*four):
+    """All other inputs alike."""
+    return lambda _: four
+
+
+def mixed(number):
+    """Other inputs that differ among themselves, some of them one sample before an edge."""
+    return lambda j: (j // 2 % 2, (7 * j + number - 1) % number, j % 4, 300 * j)
+
+
+def taken(*bits):
+    """Samples that are accepted."""
+    return [(256, b) for b in bits]
+
+
+def lost(*bits, room=255):
+    """Samples that are refused."""
+    return [(room, b) for b in bits]
+
+
+# one list for several inputs, whose neighbours have other bits in it
+BROUGHT = taken(0x8002) + lost(0xFFFF) + [(257, 0x0101)] + taken(0x7F7D) + lost(0, room=0) + taken(0x8083, 0x4141, 0x0080)
+
+BITS = [
+    bits_of("no_samples", "no bits of no samples", 1, []),
+    bits_of("all_refused", "none where all are refused", 1, lost(1, room=0) + lost(0xFFFF, 1)),
+    bits_of("rooms", "up to 255 bytes lent: refused; 256, 257 and more: accepted", 1, [(0, 1), (255, 1), (256, 1), (257, 0), (256, 0), (65536, 1), (1, 0), (511, 1)]),
+    bits_of("first_refused", "the first sample refused", 2, lost(2) + taken(0xFFFD, 2)),
+    bits_of("some_refused", "one in the middle", 8, taken(0x80) + lost(0xFF7F, room=0) + taken(0xFF7F)),
+    bits_of("last_refused", "the last one", 16, taken(0x8000, 0x7FFF) + lost(0x8000)),
+    *[bits_of("bits_of_%d" % k, "from one list with two refused, each input's own bits" if k == 1 else "", k, BROUGHT) for k in (1, 2, 8, 16)],
+    bits_of("bits_elsewhere", "the same where each edge draws a notice", 16, BROUGHT, "busy"),
+]
+
+PAIRS = [
+    alike("first_among_edges", "input 1 by itself, and while all others have edges: number 1, mode 3", 1, 1, (0, 0, 3, 5),
+          ("fresh_module", fresh_one, taken(1, 0, 1)), ("busy", mixed(1), lost(0, room=0) + taken(0xFFFF) + lost(0xFFFE) + taken(0) + [(257, 0xAAAB)] + lost(0))),
+    alike("last_among_edges", "input 16, one sample before an edge, with all others or with none: number 3, mode 1, so a falling edge is not counted", 16, 3, (0, 2, 1, 9),
+          ("busy", each(0, 2, 3, 1), lost(0x8000, 0) + taken(0xFFFF, 0x7FFF, 0x0000, 0x5555, 0x8000, 0xAAAA)),
+          ("hot", each(1, 0, 2, 65535), taken(0x8000, 0x0001) + lost(0x8000, room=0) + taken(0x7FFF, 0x2AAA, 0xD555, 0xFFFF) + lost(0x0000))),
+    alike("past_the_limit", "4,294,967,295 and an edge: 0, beside others at that limit and below it: stable on, number 1, mode 2", 8, 1, (1, 0, 2, 4294967295),
+          ("hot", each(1, 0, 3, 4294967295), taken(0x0000, 0x0080)), ("fresh_module", mixed(1), lost(0xFFFF) + taken(0xFF7F) + lost(0x00FF) + taken(0xFFFF) + lost(0, 0))),
+    alike("half_a_run", "a run of 10 goes on to 19, with refused samples between: number 20", 2, 20, (0, 10, 3, 100),
+          ("busy", mixed(20), taken(*[2] * 4) + lost(0) + taken(*[0xFFFF] * 5)), ("hot", each(0, 19, 1, 0), lost(2) + taken(*[0xAAAA] * 3) + lost(0, 0) + taken(*[2] * 6) + lost(2, 2))),
+    alike("none_selected", "mode 0 counts no edge, whatever the others' modes: stable on, number 1", 9, 1, (1, 0, 0, 7),
+          ("fresh_module", each(1, 0, 3, 7), taken(0, 0x0100, 0x0100, 0)), ("busy", each(0, 0, 1, 0), taken(0xFEFF, 0xFFFF) + lost(0, room=254) + taken(0x0100, 0xFEFF))),
+    alike("longest_run", "number 255: the second sample brings the edge, the third begins a run: mode 2", 1, 255, (1, 253, 2, 0),
+          ("hot", each(0, 254, 3, 9), taken(0xFFFE, 0, 1)), ("busy", mixed(255), taken(0) + lost(1, room=0) + taken(0xFFFE, 0xFFFF))),
+    alike("run_ended", "an equal sample ends the run, a refused one does not: stable on, number 3", 5, 3, (1, 2, 3, 65535),
+          ("fresh_module", fresh_one, taken(0x0010, 0, 0)), ("hot", mixed(3), lost(0) + taken(0xFFFF, 0xFFEF) + lost(0x0010, 0x0010) + taken(0x0F0F))),
+    alike("none_accepted", "no sample, and refused ones alone: all stays", 3, 20, (1, 7, 1, 300),
+          ("busy", each(0, 19, 1, 2), []), ("hot", fresh_one, lost(0, 0xFFFB, room=0) + lost(4, 0))),
+]
+
+# the last is typed from docs/DECISIONS.md
+ALONE = [*BITS, *[side for pair in PAIRS for side in pair],
+         ("lacking", "an input and a mode that the lists lack read as fresh ones", 1, inputs("[]", "[]", "[]", 1), [], (False, 0, 0, 0))]

@@ -1,6 +1,6 @@
 #!/usr/bin/env python3
 """Writes the tables of closed cases of crates/model/proofs: Computing, RackTable, Witnesses, FrameTable, SampleTable, CounterTable,
-PortTable, OutputTable, NoticeTable, ThermostatTable, RegisterTable, CoilTable, UnreachedTable, TallyTable, ClaimTable.
+PortTable, OutputTable, NoticeTable, ThermostatTable, RegisterTable, CoilTable, UnreachedTable, TallyTable, ClaimTable, AloneTable.
 
 Usage:  reference/tables.py         writes them as rt fmt lays them out
         reference/tables.py --count prints how many rows there are
@@ -14,12 +14,13 @@ import sys
 import textwrap
 
 sys.dont_write_bytecode = True
+import module as reference
 import rows
 
 ROOT = os.path.dirname(os.path.dirname(os.path.abspath(__file__)))
 PROOFS = os.path.join(ROOT, "crates/model/proofs/")
 SPECS = """State Times Samples Frames Refusals Wire Counters SumTest Temperature Outputs Notice Registers Spinel Modbus Call Calls Demand1 Tally
-Cycles Parts""".split()
+Cycles Parts Alone""".split()
 LISTS = "Tests Mapi Walk Numbers Chunks Entries".split()
 SHUT = {"done", "walk", "all_pass", "some_below", "entries_of", "entry_added"}
 WIDTH = 150
@@ -166,6 +167,82 @@ def claim_text(name, call, wanted):
     return f"  pub {name} : left ({call_text(call)}) ≡ {' ∷ '.join(map(str, wanted))} ∷ []\n"
 
 
+def broken(text):
+    """A text of lists and modules, its lines ended before a part of a module or behind an item."""
+    lines = []
+    for part in re.split(r" (?=\(with_inputs|\(record|\(sample_calls)", text):
+        lines.append("")
+        for piece in re.split(r"(?<=[∷+;]) (?!\[\])", part):
+            if len(lines[-1]) + len(piece) > WIDTH - 10:
+                lines.append("")
+            lines[-1] += " " + piece if lines[-1] else piece
+    return "\n      ".join(lines)
+
+
+def listing(items):
+    """A list as an argument."""
+    text = rows.joined(items)
+    return f"({text})" if items else text
+
+
+def alone_text(name, shows, k, module, sampled, wanted):
+    """The accepted bits of input k, or what a module holds of it after some samples."""
+    samples = listing([f"sample_in {room} {plain(bits)}" for room, bits in sampled])
+    if isinstance(wanted, list):
+        claim, value = f"accepted_bits {k} {module} {samples}", "".join(said(bit) + " ∷ " for bit in wanted) + "[]"
+    else:
+        claim, value = f"four {k} (run {module} (sample_calls {samples}))", "view " + " ".join(map(said, wanted))
+    text = f"  pub {name} : {claim} ≡ {value}\n"
+    text = text if len(text) <= WIDTH else f"  pub {name} : {broken(claim)}\n      ≡ {value}\n"
+    return (f"  -- {shows}\n" if shows else "") + text
+
+
+def said(part):
+    """A truth or a number."""
+    return str(part).lower() if isinstance(part, bool) else str(part)
+
+
+def whole(n):
+    """A number with a sign."""
+    return f"(pos {n})" if n >= 0 else f"(negsuc {-n - 1})"
+
+
+def read_text(tenths):
+    """A reading."""
+    return "Fault" if tenths is None else f"Valid {whole(tenths)} (of_bits binary32 0x{reference.f32_bits(tenths):08X})"
+
+
+def kept(kind, parts):
+    """A list of what a module keeps for each output."""
+    return rows.joined([f"{kind} " + " ".join(map(said, part)) if any(part) else "fresh_" + kind for part in parts])
+
+
+def around_text(name, shows):
+    """A module of the reference by its parts, the inputs fresh."""
+    m = rows.AROUND[name]
+    thermostats = [(hexed(f), whole(x), whole(y), *rest) if any((f, x, y, *rest)) else () for f, x, y, *rest in (out.th for out in m.out)]
+    return f"""-- {shows}
+abbrev {name} : Module
+{name} = record {{
+  inputs = fresh_module.inputs;
+  outputs = {kept("output", [(out.on == 1, out.left) for out in m.out])};
+  settings = record {{
+    modes = fresh_module.settings.modes;
+    sampling = {m.n};
+    presets = {kept("preset", [(out.ptype, out.ptime) for out in m.out])};
+    thermostats = {kept("thermostat", thermostats)};
+    notice = notice {hexed(0x61 if m.notice else 0)} 0x{m.mask:04X} {hexed(m.sig)};
+    sum_tested = {said(m.tested)};
+  }};
+  reading = {read_text(m.reading)};
+  last = {read_text(m.last)};
+  spinel = port {hexed(m.sa)} {m.ss} {said(m.sp)};
+  modbus = port {hexed(m.ma)} {m.ms} {said(m.mp)};
+}}
+
+"""
+
+
 # Files ------------------------------------------------------------------------------
 
 PLACES = {
@@ -181,7 +258,9 @@ PLACES = {
     "eqb_same": "Rattle.model.proofs.Checksums", "passed": "Rattle.model.proofs.Checksums", "cycles": "Rattle.model.proofs.Wraps",
     "wraps": "Rattle.model.proofs.Wraps", "cond": "mathlib.Core.Bool", "get_or": "lib.ListN",
     "Module": "Rattle.model.specs.declared.Module", "reading_words": "Rattle.model.specs.Temperature",
-    "resets_module": "Rattle.model.specs.Demand1", "leaves": "Rattle.model.specs.Parts",
+    "resets_module": "Rattle.model.specs.Demand1", "leaves": "Rattle.model.specs.Parts", "Bool": "mathlib.Core.Bool",
+    "Fault": "Rattle.model.specs.declared.Reading.TheVariants", "counter_of": "Rattle.model.specs.Cycles",
+    **{n: "Rattle.model.specs.Alone" for n in "Sample sample_calls accepted_bits line_of mode_of".split()},
 }
 EXCHANGES = """Plays ◌⇒◌ sample_of temperature_of spinel_frame modbus_frame lending two asked asked_at asked_by sent sent_to requested written
 switched reply silently answers answers_from answers_to refuses refuses_from refuses_to announces gives gives_from shows echoes excepts
@@ -308,6 +387,21 @@ left c = parts (leaves c.act marked)
 """
 
 
+ALONE_BEFORE = """-- a sample by the bytes lent and the bits
+abbrev sample_in : ℕ → ℕ → Sample
+sample_in room bits = record { room = room; bits = bits }
+
+-- of an input: is it on, its run, its mode, its counter
+abbrev view : Bool → ℕ → ℕ → ℕ → List ℕ
+view s r m c = cond s 1 0 ∷ r ∷ m ∷ c ∷ []
+
+-- as a module holds them
+abbrev four : ℕ → Module → List ℕ
+four k m = view (line_of m k).stable (line_of m k).run (mode_of m k) (counter_of m k)
+
+"""
+
+
 # The definitions opened for computing -----------------------------------------------------
 
 def computing():
@@ -360,7 +454,7 @@ TABLES = [
 def main():
     if sys.argv[1:] == ["--count"]:
         print(sum(len(c[3]) for t in TABLES for c in t[2]), "rows in", sum(len(t[2]) for t in TABLES), "cases;", len(rows.TALLIES), "tallies;",
-              len(rows.LEFT + rows.RESETS), "rows about claims")
+              len(rows.LEFT + rows.RESETS), "rows about claims;", len(rows.ALONE), "about one input")
         return
     computing()
     for t in TABLES:
@@ -368,6 +462,8 @@ def main():
     table("TallyTable", "01, Tally of cycles: what it holds of some inputs after closed lists of calls.", rows.TALLIES, tally_text, TALLY_BEFORE)
     claims = rows.LEFT + rows.RESETS
     table("ClaimTable", "What claims are said with: the parts that each call leaves, and the calls that reset.", claims, claim_text, CLAIM_BEFORE)
+    places = around_text("busy", "a module with fresh inputs and modes, and other outputs, settings, readings and ports than a fresh one") + around_text("hot", "and one with others again")
+    table("AloneTable", "E3, one input alone: its accepted bits, and what modules that agree in it hold of it after samples.", rows.ALONE, alone_text, ALONE_BEFORE + places)
 
 
 if __name__ == "__main__":

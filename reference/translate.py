@@ -17,8 +17,8 @@ FOLDERS = {"lists": "crates/lists/specs", "model": "crates/model/specs", "proofs
 FILES = {
     "lists": "Tests Mapi Walk Numbers Chunks Entries Data".split(),
     "model": """State Times Samples Frames Refusals Wire Counters SumTest Temperature Outputs Notice Registers Spinel Modbus Call Calls
-             Demand1 Tally Cycles Parts""".split(),
-    "proofs": "Exchanges Wraps Readings Puts GroupTable ClaimTable".split(),
+             Demand1 Tally Cycles Parts Alone""".split(),
+    "proofs": "Exchanges Wraps Readings Puts GroupTable ClaimTable AloneTable".split(),
 }
 # definitions by `Bounded.added`, which serve the code alone
 CODE_ALONE = {"Data.pushed", "Data.extended", "Entries.entry_added"}

@@ -1,4 +1,4 @@
-// The five calls: fresh, sample, temperature, spinel, modbus; and what demands 1 and 3 say of them.
+// The five calls: fresh, sample, temperature, spinel, modbus; what demands 1 and 3 say of them, and request E3.
 #![tactic(auto)]
 
 ghost use Rattle.std.specs.Prelude.{◌≡◌, ◌≤◌, length};
@@ -10,6 +10,7 @@ ghost use Rattle.model.specs.Wire.{frame_handled, frame_call};
 ghost use Rattle.model.specs.Calls.{sample_call, temperature_call, spinel_call, modbus_call, answer_of, Answered};
 ghost use Rattle.model.specs.Demand1.{RefusalsHold};
 ghost use Rattle.model.specs.Cycles.{CyclesConserved, CyclesConservedFrom};
+ghost use Rattle.model.specs.Alone.{OneInputAlone};
 ghost use Rattle.sampling.specs.Parts.{bytes_of};
 
 use modbus::ModbusWire;
@@ -154,4 +155,9 @@ pub fn cycles_conserved()
 #[tactic(auto, using(model::proofs::Conservation::conserved_from))]
 pub fn cycles_conserved_from()
     ensures { CyclesConservedFrom }
+{}
+
+// E3: what samples make of an input goes by the sampling number and by that input alone. It does nothing.
+pub fn one_input_alone()
+    ensures { OneInputAlone }
 {}

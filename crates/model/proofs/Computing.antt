@@ -38,6 +38,7 @@ use Rattle.model.specs.Tally.{spinel_mode, spinel_sampling, writes, written, mod
 use Rattle.model.specs.Tally.{tallied, feed, tally, clears, stayed}
 use Rattle.model.specs.Cycles.{events}
 use Rattle.model.specs.Parts.{spinel_leaves, registers_leave, modbus_leaves, leaves}
+use Rattle.model.specs.Alone.{accepted_bits}
 use Rattle.model.proofs.Exchanges.{samples_in_turn}
 use Rattle.model.proofs.Checksums.{unchecked_step, unchecked_replies}
 
@@ -60,7 +61,7 @@ unfolding within all any twice mapi bytes bits_number chunks_of chunks entry_of 
     frame_checks checks permission_ended is_broadcast refusal_reply gives_permission resets_module port_permitted selected_by sampled_account
     amounts mode_given taken_by taken_from spinel_collects spinel_clears spinel_resets spinel_mode spinel_sampling writes written
     modbus_collects modbus_clears modbus_resets modbus_mode changed tallied feed tally clears stayed events spinel_leaves registers_leave
-    modbus_leaves leaves flat_map div of_int of_bits to_bits is_nan samples_in_turn unchecked_step unchecked_replies
+    modbus_leaves leaves accepted_bits flat_map div of_int of_bits to_bits is_nan samples_in_turn unchecked_step unchecked_replies
 unchecked = tt
 
 -- and this the CRC too, for rows as they stand

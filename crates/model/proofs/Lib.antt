@@ -16,6 +16,7 @@ pub mod GroupTable
 pub mod UnreachedTable
 pub mod TallyTable
 pub mod ClaimTable
+pub mod AloneTable
 pub mod Wraps
 pub mod Readings
 pub mod SampleLaws
@@ -33,6 +34,7 @@ pub mod Accepted
 pub mod SpinelKeeps
 pub mod ModbusKeeps
 pub mod Conservation
+pub mod Alone
 pub mod PartsKept
 pub mod Puts
 pub mod Permissions

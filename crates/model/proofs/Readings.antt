@@ -1,4 +1,4 @@
--- What a reader takes from the claim of demand 3 by itself, and rows for what it is said with. Assumes nothing.
+-- What a reader takes from the claims of demand 3 and of E3 by themselves, and rows for what that of demand 3 is said with. Assumes nothing.
 use Prim.Native.Nat.{ℕ, ◌+◌, ◌-◌, ◌%◌, ◌≤◌}
 use native.Mathlib.Omega.{arith}
 use mathlib.Core.Path.{◌≡◌, refl}
@@ -15,6 +15,7 @@ use Rattle.model.specs.Spinel.{spinel_wire}
 use Rattle.model.specs.Demand1.{Check, greatest, request_checks, frame_checks, is_broadcast}
 use Rattle.model.specs.Tally.{Tally, Event, fresh_tally, amounts, taken_from, uncollected, clears, stayed}
 use Rattle.model.specs.Cycles.{events, tally_after, final_tally, counter_of, counter_now, CyclesConserved, Counting, counting_of, Alike, Agree, CyclesConservedFrom}
+use Rattle.model.specs.Alone.{Sample, sample_calls, accepted_bits, line_of, mode_of, OneInputAlone}
 use Rattle.model.proofs.Computing.{computing}
 use Rattle.model.proofs.Exchanges.{sample_of, temperature_of, asked, asked_at, sent_to, requested, written}
 
@@ -78,6 +79,18 @@ pub standing_modulo : CyclesConservedFrom → (m : Module) (collected : ℕ) →
     → ((tally_after m (standing (counting_of m) collected 0) calls).input k).edges % 4294967296
     ≡ (((tally_after m (standing (counting_of m) collected 0) calls).input k).collected + counter_of (run m calls) k) % 4294967296
 standing_modulo claim m c s calls k l h = omega (arith, (claim m (standing (counting_of m) c 0) k l h (agrees_standing k m c s) calls).sum)
+
+-- One input alone ---------------------------------------------------------------------------
+
+-- of modules with sixteen inputs each of the sixteen is covered, and the four that agree before do afterwards
+pub alone_of_sixteen : OneInputAlone → (m n : Module) → Sixteen (counting_of m) → Sixteen (counting_of n) → (k : ℕ) → 1 ≤ k → k ≤ 16 → m.settings.sampling ≡ n.settings.sampling
+    → (line_of m k).stable ≡ (line_of n k).stable → (line_of m k).run ≡ (line_of n k).run → mode_of m k ≡ mode_of n k → counter_of m k ≡ counter_of n k
+    → (ss ts : List Sample) → accepted_bits k m ss ≡ accepted_bits k n ts
+    → let after = run m (sample_calls ss) in let others = run n (sample_calls ts) in
+    ((line_of after k).stable ≡ (line_of others k).stable) × ((line_of after k).run ≡ (line_of others k).run) × (mode_of after k ≡ mode_of others k) × (counter_of after k ≡ counter_of others k)
+alone_of_sixteen claim m n x y k l h e s r o c ss ts b =
+    let has = claim k l m n (record { line = omega (arith, x.0, h); counter = omega (arith, x.2, h) }) (record { line = omega (arith, y.0, h); counter = omega (arith, y.2, h) }) e (record { stable = s; run = r; mode = o; counter = c }) ss ts b in
+    (has.stable, has.run, has.mode, has.counter)
 
 -- Rows ------------------------------------------------------------------------------------
 

@@ -17,5 +17,6 @@ pub mod Calls
 pub mod Demand1
 pub mod Tally
 pub mod Cycles
+pub mod Alone
 pub mod Parts
 pub mod Numbers
