@@ -333,7 +333,7 @@ def equations(world):
         outer = None
         for line in read("proofs", file):
             record = re.match(r"pub record \w+(.*) : Type 0 where", line)
-            alone = re.match(r"pub \w+ : .* ≡", line)
+            alone = re.match(r"pub \w+ : (\([^()]*\) )+→ [^→]* ≡", line)  # binders alone before it
             if record:
                 outer = Parser(tokens(record[1])).bound()
             elif line[0] != " " and not alone:

@@ -160,8 +160,9 @@ def pairs(count):
     """Pseudo-random modules that agree in an input, each with samples; now and then one brings it a bit more than the other, or none alike."""
     chance = random.Random(3)
     for at in range(count):
-        k, number = chance.randint(1, 16), chance.choice((1, 1, 2, 3, 20, 255))
-        own, bits = input_of(chance, number), [chance.getrandbits(1) for _ in range(chance.randrange(9))]
+        k, number = at % 16 + 1, chance.choice((1, 1, 2, 3, 20, 255))
+        own = input_of(chance, number)
+        bits = [1 - own[0]] * 4 + [chance.getrandbits(1) for _ in range(chance.randrange(9))]  # four: an edge, as a run lacks no more
         others = {1: [*bits, 1], 4: [1 - bit for bit in bits] or [0]}.get(at % 6, bits)
         sides = [(rows.standing(chance.choice(list(rows.AROUND)), number, k, own, lambda _: input_of(chance, number))[0], among(chance, k, brought))
                  for brought in (bits, others)]
@@ -243,7 +244,7 @@ def laws(world, cases):
     yield from (Conserved(world, case).noted() for case in short)
     yield from (Turn(world, count).noted() for count in (0, 254, 65534, LIMIT - 3, LIMIT - 2, LIMIT - 1))
     yield from (OneInputAlone(world, one[0], one[2], True, one[3:5], other[3:5]).noted() for one, other in rows.PAIRS)
-    yield from (OneInputAlone(world, *pair).noted() for pair in pairs(48))
+    yield from (OneInputAlone(world, *pair).noted() for pair in pairs(96))
     yield from (SettingKept(world, flags).noted() for flags in range(256))
     heated = [case for case in cases if any(one["act"][0] == "temperature" for line in case.lines for one, _ in line.calls)]
     yield from (HeatKept(world, case).noted() for case in heated)
