@@ -9,11 +9,12 @@ from dataclasses import dataclass
 from translate import BINDS, Apply, Field, Function, Let, Name, Nil, Number, Op, Record
 
 # names of one type, and fields of one type
-TWINS = ["leb ltb", "le_z lt_z", "true false", "with_spinel with_modbus", "with_counters with_modes", "spinel_wire modbus_wire",
+TWINS = ["leb ltb", "le_z lt_z", "true false", "with_spinel with_modbus", "with_counters with_modes", "spinel_wire modbus_wire text_wire",
          "spinel_to modbus_to", "spinel_broadcast modbus_broadcast", "spinel_address_wrong modbus_address_wrong",
-         "spinel_broadcast_wrong modbus_broadcast_wrong", "sum_wrong crc_wrong", "signature_of instruction_of", "ack_of exception_of"]
+         "spinel_broadcast_wrong modbus_broadcast_wrong", "sum_wrong crc_wrong", "signature_of instruction_of", "ack_of exception_of",
+         "text_universal text_broadcast", "is_address is_speed"]
 ALIKE = ["tempx tempy", "reading last", "spinel modbus", "address speed", "number value", "first count", "edges collected", "format mask",
-         "shape_wrong check_wrong broadcast_wrong", "least broadcast"]
+         "shape_wrong check_wrong broadcast_wrong", "least most broadcast"]
 NAMES, FIELDS = ({name: [other for other in names.split() if other != name] for names in listed for name in names.split()}
                  for listed in (TWINS, ALIKE))
 SIGNS = {"&&": "||", "||": "&&", "+": "-", "-": "+", "/": "%", "%": "/"}
@@ -142,11 +143,21 @@ def parts(x):
             yield value, lambda y, at=at: Apply(x.head, x.arguments[:at] + (y,) + x.arguments[at + 1:])
 
 
+def are_exchanged(x, y):
+    """Is this a list with its first two items exchanged?"""
+    return all(isinstance(z, Op) and z.sign == "∷" and isinstance(z.right, Op) for z in (x, y)) and (x.left, x.right.left) == (y.right.left, y.left)
+
+
+def cut(*lists):
+    """Lists up to their second item, what stands behind it by two dots."""
+    return [Op("∷", x.left, Op("∷", x.right.left, Name("..") if isinstance(x.right.right, Op) else x.right.right)) for x in lists]
+
+
 def changed(x, around=""):
     """Every expression that differs in one place, with what was changed there; a small place is told with what is around it."""
     for y in at_place(x):
         where = around + ": " if around and isinstance(x, (Number, Name, Field)) else ""
-        yield y, "%s%s → %s" % (where, shown(x), shown(y))
+        yield y, "%s%s → %s" % (where, *(map(shown, cut(x, y)) if are_exchanged(x, y) else (shown(x), shown(y))))
     for at, (part, put) in enumerate(parts(x)):
         for y, text in changed(part, x.fields[at][0] if isinstance(x, Record) else shown(x, 2)):
             yield put(y), text

@@ -1,14 +1,21 @@
-"""Documents 01 and 02 (E1, E4, E5, E6) in Python, written from the papers alone: the expected bytes of the tables in crates/model/proofs, and of the programs' stored
-output where 01 gives another reply than a source, are worked out with it. None is captured from the definitions or from the proved code.
+"""Documents 01 and 02 (E1 to E6; E3 changes no answer) in Python, written from the papers alone: the expected bytes of the tables in
+crates/model/proofs, and of the programs' stored output where 01 gives another reply than a source, are worked out with it. None is captured
+from the definitions or from the proved code.
 
 Module has a method for each call: sample, temperature, spinel, modbus. Each answers the refusal's number (0: accepted) and the reply's bytes.
 """
-import struct, copy
+import copy, re, struct
 from fractions import Fraction
 
 WIDTH = 4  # bytes of a counter: in the replies of 60H, in the amounts of 61H
 LIMIT = 256 ** WIDTH  # a counter that would reach it is 0 again
 ITEM = 1 + WIDTH  # bytes of a deduction of 61H
+ACK = {7: 2, 8: 3, 10: 4, 11: 3, 12: 3, 13: 3}  # of a refusal that is answered, in both formats of the Spinel port
+OFF, BINARY, TEXT = 0, 0x61, 0x42  # the notice: off, on in format 97, on in format 66
+NUMBER = rb'([0-9]{1,3})'
+# the instructions of the text format: what stands between the code and the carriage return
+TEXTS = {b'IR': NUMBER, b'OR': NUMBER, b'OS': NUMBER + rb'([HL])', b'OT': NUMBER + rb'([HL])' + NUMBER, b'OST': NUMBER + rb'([HL])' + NUMBER,
+         b'RT': NUMBER, b'IS': rb'([01])', b'IX': rb'', b'E': rb'', b'AS': rb'([0-9A-Za-z])', b'SS': rb'([0-9AB])'}
 
 def f32_bits(t):
     """The bits of the f32 nearest to t/10, ties to even, worked out in fractions."""
@@ -47,6 +54,14 @@ def mod(addr, fn, body):
     b = bytes([addr, fn]) + bytes(body)
     return b + crc(b)
 
+def said(addr, ack, data=b''):
+    """A reply of the text format: the ACK is one character."""
+    return b'*B' + bytes([addr]) + ack + data + b'\r'
+def code_of(body):
+    """The longest of the codes that a text begins with, or nothing."""
+    return max((c for c in TEXTS if body.startswith(c)), key=len, default=None)
+def high(on): return b'H' if on else b'L'
+
 class Ref(Exception):
     def __init__(self, n): self.n = n
 
@@ -61,7 +76,7 @@ class Module:
         self.stable = [0]*16; self.run = [0]*16; self.mode = [0]*16; self.cnt = [0]*16
         self.n = 20
         self.out = [Out() for _ in range(16)]
-        self.notice = False; self.mask = 0; self.sig = 0
+        self.notice = OFF; self.mask = 0; self.sig = 0  # the signature is that of the last 10H 01
         self.tested = True       # is SUM tested on the Spinel port
         self.sa, self.ss = 0x31, 6
         self.ma, self.ms = 0x31, 6
@@ -101,6 +116,9 @@ class Module:
             if o.left:
                 o.left -= 1
                 if o.left == 0: o.on ^= 1
+        if self.notice == TEXT and edges & self.mask:
+            each = [high(b) for b in self.stable]
+            return 0, said(self.sa, b'D', b''.join(b' ' + b''.join(each[i:j]) for i, j in ((0, 5), (5, 10), (10, 15), (15, 16))))
         if self.notice and edges & self.mask:
             return 0, spin(self.sa, self.sig, 0x0D, be(self.inputs()))
         return 0, b''
@@ -137,6 +155,7 @@ class Module:
     def spinel(self, fr, room=256):
         fr = bytes(fr)
         if room < 256: return 1, b''
+        if fr[:2] == b'*B': return self.text(fr)
         if len(fr) < 9 or len(fr) > 256: return 2, b''
         if fr[:2] != b'\x2a\x61' or fr[-1] != 0x0D or fr[2]*256 + fr[3] != len(fr) - 4: return 3, b''
         if self.tested and fr[-2] != summ(fr[:-2]): return 4, b''
@@ -153,9 +172,70 @@ class Module:
             r, ack = 0, 0
         except Ref as e:
             r, d = e.n, b''
-            ack = {7: 2, 8: 3, 10: 4, 11: 3, 12: 3, 13: 3}[r]
+            ack = ACK[r]
         if a == 0xFF: return r, b''
         return r, spin(own, sig, ack, d)
+
+    def text(self, fr):
+        """Format 66: *B, the address, a code, its parameters, a carriage return."""
+        if not 5 <= len(fr) <= 32: return 2, b''
+        if fr[-1] != 0x0D: return 3, b''
+        a, body = fr[2], fr[3:-1]
+        everyone = a == ord('%')
+        if a != ord('$') and not everyone and a != self.sa: return 5, b''
+        code = code_of(body)
+        if everyone and code not in (b'OS', b'OT', b'OST'): return 6, b''
+        perm = self.sp
+        self.sp = False
+        own = self.sa
+        w = copy.deepcopy(self)
+        try:
+            ack, d = w.text_body(code, body, a == ord('$'), perm)
+            self.__dict__ = w.__dict__
+            r = 0
+        except Ref as e:
+            r, ack, d = e.n, b'%d' % ACK[e.n], b''
+        return r, (b'' if everyone else said(own, ack, d))
+
+    def text_body(self, code, body, universal, perm):
+        """The ACK and the data of an accepted request."""
+        if code is None: raise Ref(7)
+        given = re.fullmatch(TEXTS[code], body[len(code):])
+        if not given: raise Ref(8)
+        given = given.groups()
+        if code in (b'E', b'AS', b'SS') and universal: raise Ref(10)
+        if code in (b'AS', b'SS') and not perm: raise Ref(10)
+        def among(n):
+            if not 1 <= n <= 16: raise Ref(11)
+            return n - 1
+        if code == b'IR': return b'0', high(self.stable[among(int(given[0]))])
+        if code == b'OR': return b'0', high(self.out[among(int(given[0]))].on)
+        if code in (b'OS', b'OT', b'OST'):
+            k, on, samples = among(int(given[0])), given[1] == b'H', 0
+            if code != b'OS':
+                if not 1 <= int(given[2]) <= 255: raise Ref(11)
+                samples = 500 * int(given[2])
+            if self.held(k): raise Ref(12)
+            self.set(k, int(on), samples)
+        elif code == b'RT':
+            if int(given[0]) != 1: raise Ref(11)
+            if self.reading is None: return b'5', b''
+            whole, tenth = divmod(abs(self.reading), 10)
+            return b'0', b'%c%03d.%dC' % (b'-' if self.reading < 0 else b'+', whole, tenth)
+        elif code == b'IS':
+            if given[0] == b'1':
+                if self.notice: raise Ref(11)
+                self.notice, self.mask = TEXT, 0xFFFF
+            else: self.notice, self.mask = OFF, 0
+        elif code == b'IX': return b'0', bytes([self.notice or ord('0')])
+        elif code == b'E': self.sp = True
+        elif code == b'AS':
+            self.sa = given[0][0]
+            self.reset()
+        else:
+            self.ss = b'0123456789AB'.index(given[0])
+            self.reset()
+        return b'0', b''
 
     def listread(self, d, zero_all=True):
         """The places of the numbers listed, or of all for a single 00."""
@@ -180,13 +260,13 @@ class Module:
     def i10(self, d, a, sig, perm):
         if d[0] == 1:
             if self.notice: raise Ref(11)
-            self.notice = True; self.sig = sig
+            self.notice = BINARY; self.sig = sig
             self.mask = d[1]*256 + d[2] if len(d) == 3 else 0xFFFF
         elif d == [0]:
-            self.notice = False; self.mask = 0
+            self.notice = OFF; self.mask = 0
         else: raise Ref(11)
         return b''
-    def i11(self, d, a, sig, perm): return bytes([0x61 if self.notice else 0]) + be(self.mask)
+    def i11(self, d, a, sig, perm): return bytes([self.notice]) + be(self.mask)
 
     @staticmethod
     def thermo_ok(f, x, y, t, e):
@@ -505,3 +585,49 @@ if __name__ == '__main__':
     for f in (0xC9, 0xD9, 0xE9, 0xF9, 0x88, 0x8A, 0x8F): assert m.spinel(spin(0x31, 2, 0x1A, [3, f] + list(h('00C800640100'))))[0] == 11
     assert m.spinel(spin(0x31, 2, 0x1A, h('0369006400C80000')))[0] == 0 and not m.held(2)
     print('thermostat modes ok')
+    def texts(m, *exchanges):
+        """Text frames without their carriage return, each with its number and what is replied."""
+        for asked, number, told in exchanges:
+            given = m.spinel(b'*B' + asked + b'\r')
+            assert given == (number, told and b'*B' + told + b'\r'), (asked, given)
+    m = Module()
+    m.n = 1; m.sample(0b110); m.temperature(True, 291)
+    # the exchanges of 000 at address 1; outputs to 16, and RT in place of TR
+    texts(m, (b'1OS2H', 0, b'10'), (b'1OR2', 0, b'10H'), (b'$IR3', 0, b'10H'), (b'1IR2', 0, b'10H'), (b'1OR4', 0, b'10L'), (b'1OS3H', 0, b'10'),
+          (b'1OT1H20', 0, b'10'), (b'1OT5H20', 0, b'10'), (b'1OST5H20', 0, b'10'), (b'1IR29', 11, b'13'), (b'1OS25H', 11, b'13'), (b'1OR14', 0, b'10L'),
+          (b'1ORT3', 8, b'13'), (b'1RT1', 0, b'10+029.1C'), (b'1TR1', 7, b'12'), (b'1IX', 0, b'100'), (b'1IS1', 0, b'10'), (b'1IX', 0, b'10B'),
+          (b'1?', 7, b'12'), (b'1CP', 7, b'12'), (b'1CR15', 7, b'12'))
+    assert m.outputs() == 0b10111 and m.remaining(4) == m.remaining(0) == 20 and m.remaining(1) == 0
+    assert m.sample(0b1000000) == (0, b'*B1D LLLLL LHLLL LLLLL L\r')
+    assert m.sample(0x8431) == (0, b'*B1D HLLLH HLLLL HLLLL H\r') and m.sample(0x8431) == (0, b'')
+    assert m.spinel(spin(0x31, 9, 0x11, [])) == (0, spin(0x31, 9, 0, h('42FFFF'))) and m.spinel(spin(0x31, 9, 0x10, [1]))[0] == 11
+    texts(m, (b'1IS1', 11, b'13'), (b'1IS0', 0, b'10'), (b'1IX', 0, b'100'), (b'1IS2', 8, b'13'))
+    assert m.spinel(spin(0x31, 9, 0x10, h('010002')))[0] == 0 and m.mask == 2
+    texts(m, (b'1IX', 0, b'10a'), (b'1IS1', 11, b'13'))
+    assert m.sample(2) == (0, spin(0x31, 9, 0x0D, [0, 2])) and m.mask == 2
+    # addresses and speeds: f to 5, then speed 7; the old address answers, then all is reset
+    m = Module()
+    m.sa = ord('f'); m.cnt[3] = 9; m.set(0, 1); m.run[1] = 3; m.mp = True
+    texts(m, (b'fAS5', 10, b'f4'), (b'$E', 10, b'f4'), (b'fE', 0, b'f0'), (b'$AS5', 10, b'f4'), (b'fE', 0, b'f0'), (b'fAS5', 0, b'f0'), (b'fIX', 5, b''))
+    assert m.sa == ord('5') and m.cnt[3] == m.outputs() == m.run[1] == 0 and not m.mp and m.ss == 6
+    texts(m, (b'5AS5', 10, b'54'), (b'5E', 0, b'50'), (b'5SS', 8, b'53'), (b'5SS7', 10, b'54'), (b'5E', 0, b'50'), (b'5SS7', 0, b'50'), (b'5E', 0, b'50'))
+    assert m.ss == 7 and m.sp and m.spinel(spin(0x35, 2, 0xE0, [0x31, 11])) == (0, spin(0x35, 2, 0, []))
+    assert m.spinel(spin(0x31, 2, 0xE4, []))[0] == 0
+    texts(m, (b'%IX', 6, b''), (b'%ORT1H5', 6, b''), (b'2IX', 5, b''), (b'\xFEIX', 5, b''), (b'\xFFOS1H', 5, b''), (b'1SSA', 0, b'10'))
+    assert m.ss == 10
+    # to all: no reply
+    texts(m, (b'%OS1H', 0, b''), (b'%OT2L3', 0, b''), (b'%OST16H255', 0, b''), (b'%OS17H', 11, b''), (b'%OST1H', 8, b''), (b'%OS', 8, b''))
+    assert m.outputs() == 0x8001 and m.remaining(1) == 3 and m.remaining(15) == 255
+    # lengths and ends; the reasons in order
+    assert m.spinel(b'*B1\r') == (2, b'') and m.spinel(b'*B1IX' + b'\r' * 28) == (2, b'') and m.spinel(b'*B1IX' + b'\r' * 27) == (8, b'*B13\r')
+    assert m.spinel(b'*B1IX\n') == (3, b'') and m.spinel(b'*B2IX') == (3, b'') and m.spinel(b'*b1OS001H\r') == (3, b'') and m.spinel(b'*B1E\r', 255) == (1, b'')
+    texts(m, (b'1ix', 7, b'12'), (b'1', 2, b''), (b'1OS001H', 0, b'10'), (b'1OS0001H', 8, b'13'), (b'1OS0h', 8, b'13'), (b'1OS0H', 11, b'13'), (b'1OT1H0', 11, b'13'),
+          (b'1OT1H256', 11, b'13'), (b'1OT1H', 8, b'13'), (b'1E1', 8, b'13'), (b'$AS', 8, b'13'), (b'1ASa', 10, b'14'))
+    # RT, and what a thermostat holds
+    m = Module()
+    texts(m, (b'1RT1', 0, b'15'), (b'1RT2', 11, b'13'))
+    for t, told in ((0, b'10+000.0C'), (-1, b'10-000.1C'), (-1000, b'10-100.0C'), (2000, b'10+200.0C'), (-999, b'10-099.9C'), (2001, b'15')):
+        m.temperature(True, t); texts(m, (b'1RT001', 0, told))
+    m.out[0].th = (0x81, 300, 200, 0, 0)
+    texts(m, (b'1OS1H', 12, b'13'), (b'1OT1H0', 11, b'13'), (b'%OST1H9', 12, b''), (b'1OS2H', 0, b'10'))
+    print('text format ok')

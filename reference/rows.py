@@ -31,6 +31,16 @@ def raw(port, *frame, room=256):
     return (port + " bytes", list(frame), room)
 
 
+def B(text, a="1", end="\r", room=256):
+    """A frame of the text format: what stands between the address and the carriage return."""
+    return raw("spinel", *("*B" + a + text + end).encode("latin-1"), room=room)
+
+
+def texts(*listed, a="1"):
+    """Several of them; each may be a code with what follows it, parted by a colon: "IR: 1 16" is IR1 and IR16."""
+    return [B(code + each, a) for text in listed for code, _, rest in [text.partition(": ")] for each in (rest.split(" ") if rest else [""])]
+
+
 def word(n):
     return [n // 256 % 256, n % 256]
 
@@ -1105,6 +1115,176 @@ COILS = [
          R(1, 0, 16), T(199), R(5, 2, 0), R(1, 0, 16)),
 ]
 
+# The text format (E2) --------------------------------------------------------------------------
+
+def replied(number, text):
+    """An answer in text."""
+    return number, list(("*B" + text + "\r").encode("latin-1"))
+
+
+def moved(address, speed=6, of=0x31):
+    """The Spinel port's address, in two binary requests."""
+    return [S(0xE4, a=of), S(0xE0, address, speed, a=of)]
+
+
+# a 61H of twelve items to address 53H, which has AS where a text has its code
+LIKE_TEXT = D(*[(k, 0) for k in range(1, 13)], a=0x53)
+
+
+def between(texts, before, after):
+    """Texts, each behind one call and before another."""
+    return [c for text in texts for c in (before, text, after)]
+
+
+TEXTS = [
+    case("text_lengths", "2: a text of under 5 or over 32 bytes, before 3 and 5; one of 5 or 32 is judged",
+         raw("spinel", 0x2A, 0x42), B(""), B("E", end=""), B("E"), B("OS" + "1" * 26), B("OS" + "1" * 27), B("x" * 28, "2"), B("x" * 29, "2"),
+         B("x" * 29, end=""), B("x" * 30, end=""), B("x" * 252)),
+    case("text_room", "1: a buffer of 255 or 0 bytes, before 2; the permission and all else stay",
+         B("E"), B("OS1H", room=255), B("AS5", room=255), B("", room=0), B("AS5"), B("OR1", "5")),
+    case("text_ends", "3: another last byte than the carriage return, before 5 and 6; one before the last is a character that nothing allows",
+         [B("OS1H", end=end) for end in ("", "\n", "\x0c", "\x0e", "\r\n")], B("OS1H", "2", end="."), B("IX", "%", end="\n"),
+         texts("OS1H\r", "E\r", "IX\n", "\rE"), S(0x30)),
+    case("text_prefix", "only 2A 42 begins a text; with another byte the frame is judged as before: 2 under 9 bytes, 3 from there on",
+         [raw("spinel", *(start + "1OT001H001\r").encode("latin-1")) for start in ("*A", "*C", "*b", "*a", "+B", ")B", " *B")], raw("spinel", *b"*b1OS1H\r"),
+         raw("spinel", *b"+B1OS1H\r"), S(0x30)),
+    case("text_for_binary", "a binary frame with 42H in the place of 61H and a right SUM: a text to address 00; the own address 00 takes it, 7",
+         raw("spinel", 0x2A, 0x42, 0, 5, 0x31, 2, 0x30, 0x2B, 0x0D), moved(0), raw("spinel", 0x2A, 0x42, 0, 5, 0, 2, 0xE3, 0xA9, 0x0D), S(0xF0, a=0)),
+    case("text_no_sum", "there is no 4 with SUM tested or not (E5); 3 and 5 stay, and no text turns the test",
+         UNTESTED, B("OS1H"), B("OS1H", end="\n"), B("OS1H", "2"), X(0x30)),
+    case("text_address", "5: an address beside the own one, FE and FF too; $ is answered from the own address, also where refused",
+         [B("OS1H", a) for a in ("0", "2", "\xfe", "\xff", "#", "&")], S(0x30), texts("OS1H", "OR1", "x", "IR", "IR17", a="$")),
+    case("text_own_address", "own addresses of any byte: f and not F, the carriage return; replies have it too",
+         moved(0x66), B("IX", "F"), B("IX", "f"), B("IX"), moved(0x0D, of=0x66), B("IX", "\r"), B("\r", "\r"), B("OR1", "$"),
+         texts("E", "SS7", a="\r"), S(0xF0, a=0x0D)),
+    case("text_own_universal", "own address 24H: $ is the universal one all the same, 10 for E and AS, also with a permission by E4H",
+         moved(0x24), texts("IX", "E", a="$"), S(0xE4, a=0x24), texts("AS5", "OS1H", a="$"), B("IX"), S(0x30, a=0x24)),
+    case("text_own_broadcast", "own address 25H: % is for all, 6 for all but OS, OT and OST, and no reply; $ is answered from it",
+         moved(0x25), texts("IX", "OS1H", "OS0H", a="%"), B("OR1", "$"), S(0x30, a=0x25)),
+    case("text_to_all", "to % OS, OT and OST are served without a reply, refused or not: 8, 11",
+         texts("OS1H", "OT2H3", "OST16H255", "OST3L1", a="%"), S(0x33, 1, 2, 3, 16), texts("OS17L", "OS1", "OT1L0", "OT", "OST1L", "OST1L256", a="%"),
+         S(0x33, 1, 2, 3, 16)),
+    case("text_to_all_others", "6 for all else to %, no code and lower case too; ORT begins with OR; nothing changes, and the permission stays",
+         B("E"), texts("IR1", "OR1", "ORT1H5", "RT1", "IS1", "IX", "E", "AS5", "SS7", "AS", "os1H", "O", " OS1H", "x", a="%"), B("AS6"), S(0x11, a=0x36),
+         S(0x30, a=0x36)),
+    case("text_codes", "7, ACK 2: codes in lower case, a part of one, none, and codes of the sources that are left out; before 8",
+         texts("ir1", "Or1", "oS1H", "ot1H1", "rt1", "iS1", "ix", "e", "As5", "sS7", "I", "O1H", "S7", "A5", "R1", "1", " IX", "TR1", "CR15", "?")),
+    case("text_inputs", "IR: an input by its stable state, H or L; zeros may stand before its number",
+         S(0x62, 2), samples(0x9A35), B("IR1"), samples(0x9A35), texts("IR: 1 2 3 8 9 10 12 15 16 001 02 016"), B("IR14", "$"), samples(0), B("IR1"),
+         samples(0), B("IR1")),
+    case("text_inputs_refused", "IR: 0 and over 16, in one to three digits: 11; no number, four digits, another character: 8",
+         texts("IR: 0 000 17 99 101 256 257 999"), [B("IR" + t) for t in ("", "0001", "H", "1H", "+1", " 1", "1 ", "/", ":", "1:")]),
+    case("text_outputs", "OR: an output's state, H or L, during a pulse that of the pulse",
+         S(0x20, 0x81, 0x83, 0x85, 0x86, 0x8A, 0x8C, 0x8D, 0x90), texts("OR: 1 2 8 9 10 12 15 16 016"), S(0x23, 1, 0x82, 3), texts("OR: 2 3"), P(0, 500),
+         B("OR2")),
+    case("text_outputs_refused", "OR: the same limits; ORT is OR with a T: 8",
+         texts("OR: 0 17 256 999 0001 1H 1:", "OR", "ORT3")),
+    case("text_set", "OS: the output named, on or off, and no other; 30H shows it",
+         [c for text in ("1H", "16H", "010H", "1L", "016L") for c in (B("OS" + text), S(0x30))], texts("OS: 2H 3H 7H 8H 9H 12H 15H"), S(0x30),
+         B("OS2L", "$"), S(0x30), S(0x31)),
+    case("text_set_refused", "OS: 0 and over 16: 11; no number or state, another state, more behind it, four digits: 8, before 11; nothing is set",
+         S(0x20, 0x81, 0x82), texts("OS: 0H 000L 17L 17H 257L 258L 272H 999L", "OS: 1 1h 1l 1G 1K 1LL 1LH 1L1 L 0001L 0h 17X"),
+         [B("OS" + t) for t in ("", "1 L", "1L ", " 1L")], S(0x30)),
+    case("text_set_ends_pulses", "OS ends a pulse, to the state it has and to the other; the pulses of others go on",
+         S(0x23, 1, 0x81, 0x82, 3, 4, 0x85), texts("OS: 1H 2L 3L 4H"), S(0x33, 1, 2, 3, 4, 5), P(0, 500), S(0x33, 1, 2, 3, 4, 5)),
+    case("text_pulse", "OT and OST alike: an on and an off pulse; its state meanwhile; after 500 samples for each half second the opposite",
+         texts("OT1H2", "OT2L2", "OST3H1", "OST4L1"), S(0x33, 1, 2, 3, 4, 5), P(0, 499), S(0x33, 1, 2, 3, 4), P(0), S(0x33, 1, 2, 3, 4), P(0, 499),
+         S(0x33, 1, 2), P(0), S(0x33, 1, 2)),
+    case("text_pulse_times", "times 1 to 255, zeros before them, outputs 1 and 16; one begun anew; a set ends one",
+         texts("OT: 1H255 16H1 02H020 003L003", "OST: 8H254 9L010 010L100"), S(0x33, 1, 2, 3, 8, 9, 10, 16), P(0, 300), B("OT16H1"), P(0, 499),
+         S(0x33, 16, 1), P(0), S(0x33, 16), B("OST1L2", "$"), S(0x33, 1), B("OS1L"), S(0x33, 1)),
+    case("text_pulse_refused",
+         "OT and OST: output 0 or over 16, time 0 or over 255: 11; anything lacking or over, four digits: 8, before 11; no pulse begins",
+         texts("OT: 0H1 17L1 257H1 1H0 1H000 1H256 1H257 1L999 0H0", "OT: 1H H1 1H0001 0001H1 1h1 1G1 1K1 11 1H1x 1HL1 0h0 17H", "OST: 0H1 17H1 1H0 1H256",
+         "OST: 1H 1H0001 1h1 1H1H 0H"),
+         texts("OT", "OT1H 1", "OT1H1 ", "OST", "OTS1H1", "OSTT1H1"), S(0x30)),
+    case("text_longest", "slip: the shortest code, or the first that fits. OST is neither OS with a T nor OT; OS takes no time, OST no less",
+         texts("OST1H", "OS1H", "OS1L2", "OST1L2", "OS1L", "OT1L2"), S(0x33, 1)),
+    case("text_held", "12, after 8 and 11: OS, OT and OST, H or L, to $ and to %, of a held output; others and F = 0 are free",
+         S(0x1A, *group(1, 0x81, 300, 200), *group(16, 0xA9, 300, 200), *group(2, 0x01, 300, 200)),
+         texts("OS: 1H 1L 016H 2H", "OT: 1H1 2H9", "OST: 16L255 3H9"), B("OT1L1", "$"), texts("OS1H", "OT1H1", "OST1L1", "OS4H", a="%"),
+         texts("OT: 1H0 1H", "OS: 17H 1"), S(0x33, 1, 2, 3, 4, 16), T(200), texts("OS1H", "OST16H3"), T(199), B("OS1L"), T(301), B("OT1H3"), FAULT,
+         B("OS1L"), T(250), FAULT, texts("OS1L", "OT1H3", "OST16H3"), S(0x33, 1, 16)),
+    case("text_temperature", "RT: a sign, + for 0 too, three digits, a point, the tenth, C: the ends, on both sides of each power of ten; zeros before the 1",
+         [c for t in (0, 1, -1, 9, 10, -99, 100, 291, -305, 999, -1000, 2000) for c in (T(t), B("RT1"))], texts("RT: 01 001"), B("RT1", "$")),
+    case("text_temperature_refused", "RT: 0 and 2 up: 11, also at a fault; no number, four digits, another character: 8; TR is no code: 7",
+         B("RT2"), T(-5), texts("RT: 0 2 10 11 101 257 0001 1C x", "RT", "RT 1", "TR1", "ORT1")),
+    case("text_fault", "RT at a fault: number 0, ACK 5, no data; the reading before is not shown; it uses the permission up",
+         B("RT1"), B("RT1", "$"), *[c for fault in (FAULT, T(2001), T(-1001)) for c in (T(313), fault, B("RT1"))], B("E"), B("RT1"), B("AS5")),
+    case("text_notice_on", "IS1: 11H reads 42H and mask FFFF, IX B; on again by either format: 11; IS0 and 10H 00 turn it off, the mask is 0 then",
+         B("IX"), B("IS1"), B("IX"), S(0x11), B("IS1"), S(0x10, 1), S(0x10, 1, 0, 1), S(0x11), B("IS0"), B("IX"), S(0x11), B("IS0"), B("IS1", "$"),
+         S(0x10, 0), B("IX"), S(0x11)),
+    case("text_notice_either", "on by 10H: IX a; IS1 is 11 and leaves format, mask and signature; IS0 turns it off; IS1 then has the full mask",
+         S(0x62, 1), S(0x10, 1, 0, 2, s=9), B("IX"), B("IS1"), B("IX"), S(0x11), samples(1, 3), B("IS0"), S(0x11), B("IX"), samples(0), B("IS1"), S(0x11),
+         samples(1), S(0x10, 0), samples(0)),
+    case("text_notice_refused", "IS: no digit, another one, a letter, two digits: 8, off or on; IX with a character: 8",
+         texts("IS", "IS2", "IS/", "ISH", "IS01", "IS1 ", "IX1"), S(0x11), texts("IS1", "IS2", "IS00", "IX0"), S(0x11)),
+    case("text_notices", "25 bytes: *B, address, D, H or L for inputs 1 to 16, a blank before 1, 6, 11 and 16, carriage return; one input alone, many, none",
+         S(0x62, 1), B("IS1"), samples(1, 0x10, 0x20, 0x200, 0x400, 0x4000, 0x8000, 0, 0xFFFF, 0x7BDE, 0xA5C3, 0xA5C3)),
+    case("text_notice_edges",
+         "an edge of any input, whatever its mode, and none without one: with number 20 the 20th sample; a refused sample writes nothing",
+         S(0x6A, 1, 1, 2, 2, 3, 3), B("IS1"), P(15, 19), samples(15), P(15, 25), S(0x62, 1), P(0, room=255), samples(0, 8, 12), B("IS0"), samples(1)),
+    case("text_notice_after_pulses", "in one sample the counter counts, the pulse ends and the notice is written, which shows no outputs",
+         S(0x6A, 2, 1), S(0x62, 1), B("IS1"), B("OT16H1"), P(0, 499), samples(2), S(0x60, 2), S(0x30)),
+    case("text_notice_kept", "a reset keeps it: E3H, AS, SS, registers; it has the Spinel port's address, the new one after AS",
+         S(0x62, 1), B("IS1"), S(0xE3), B("IX"), samples(1), texts("E", "AS7"), samples(0), texts("IX", "E", "SSA", a="7"), samples(2), R(6, 0, 0xFF),
+         R(6, 1, 5), samples(3), S(0x11, a=0x37)),
+    case("text_notice_signature", "a notice by 10H after one in text: format 97, its own mask and signature",
+         S(0x62, 1), S(0x10, 1, s=9), samples(1), S(0x10, 0, s=8), B("IS1"), samples(0), S(0x10, 1, s=6), B("IS0"), S(0x10, 1, 0, 2, s=7), samples(1, 3)),
+    case("text_permission", "given by E for E0H, EEH, AS or SS, given by E4H for AS or SS; for one request, also when given twice",
+         texts("AS5", "SS5", "E"), S(0xE0, 0x31, 7), S(0xE0, 0x31, 8), S(0xF0), B("E"), S(0xEE, 0), S(0xEE, 1), S(0xFE), S(0xE4), texts("SS9", "SS8"),
+         S(0xF0), texts("E", "AS2"), texts("AS3", "E", "E", a="2"),
+         S(0xE0, 0x31, 6, a=0x32), S(0xE4), texts("E", "SS8", "SS9"), S(0xF0)),
+    case("text_permission_used", "any text that passes 1 to 6 uses it up: accepted, 7, 8, 11, 12, 10 to $, to all",
+         S(0x1A, *group(16, 0x81, 300, 200)), between(texts("IX", "OS1H", "x", "IX1", "IR0", "OS16H"), B("E"), B("AS5")),
+         between([*texts("OS1H", "OT1H0", a="%"), *texts("IX", "E", "AS5", a="$")], S(0xE4), S(0xE0, 0x32, 7)), S(0xF0)),
+    case("text_permission_binary", "a binary request uses up what E gave, accepted or refused; one refused by 4 does not",
+         between([S(0x30), S(0x99), S(0x20, 0x81, a=0xFF), S(0xE4, a=0xFE)], B("E"), B("AS5")), B("E"), X(0x30), B("SS5"), S(0xF0)),
+    case("text_permission_kept", "not by texts that 2, 3, 5 or 6 refuse, nor by samples, the thermometer and the other port",
+         B("E"), B(""), B("x" * 30), B("IX", end="\n"), B("IX", "2"), B("E", "\xfe"), texts("IX", "AS7", a="%"), P(1), T(1), R(6, 0, 0xFF), S(0x30, a=0x32),
+         B("AS3"), S(0xF0, a=0x33)),
+    case("text_permission_ports", "E is none for the Modbus port, register 0 none for SS; a reset by the other port and E3H end what E gave",
+         B("E"), R(6, 1, 5), B("SS5"), R(6, 0, 0xFF), B("SS6"), R(6, 0, 0xFF), B("E"), R(6, 2, 6), B("AS5"), B("E"), S(0xE3), B("AS5")),
+    case("text_by_length",
+         "slip: a code read without its prefix. A 1AH of eight groups has an E in its fourth byte and permits nothing; a 61H of twelve items to S has AS",
+         S(0x1A, *[b for k in range(1, 9) for b in group(k, 0, 0, 0)]), S(0xE0, 0x31, 6), moved(0x53), B("OS1H", "S"), B("E", "S"), LIKE_TEXT,
+         S(0xF0, a=0x53), B("OR1", "S")),
+    case("text_universal", "to $ 10, ACK 4, for E, AS and SS, after 8, with the permission too, by either code; nothing changes",
+         texts("E", "AS5", "E1", "AS", "SSC", a="$"), B("E"), B("AS5", "$"), S(0xE4), B("SS7", "$"), S(0xEE, 0), S(0xF0)),
+    case("text_no_permission", "10 for AS and SS without it, also to what they have; E with a character behind it: 8, and no permission",
+         texts("AS5", "AS1", "SS6", "E1", "EE", "AS5")),
+    case("text_set_address", "AS: a digit, a capital, a small letter; the old address answers, then the new one; the speed stays",
+         texts("E", "SS7", "E", "AS0"), [c for old, new in zip("0AZaz", "AZaz9") for c in (B("E", old), B("AS" + new, old), S(0xF0, a=ord(new)))],
+         B("IX", "z"), B("IX", "0")),
+    case("text_set_address_refused", "AS: none, two, another character: 8, before 10, and with the permission, which it ends",
+         [B("AS" + t) for t in ("", "55", " 5", "/", ":", "@", "[", "`", "{", "$", "%", "\xb5")], B("E"), B("AS-"), B("AS5"), S(0xF0)),
+    case("text_set_speed", "SS: 0 to 9, A, B are the speed codes 0 to 11; the address stays, and AS keeps the speed",
+         [c for code in "0123456789AB" for c in (B("E"), B("SS" + code), S(0xF0))], B("E"), B("AS2"), S(0xF0, a=0x32)),
+    case("text_set_speed_refused", "SS: none, two, another character, a and b: 8, before 10, and with the permission, which it ends",
+         [B("SS" + t) for t in ("", "C", "a", "b", "/", ":", "@", "10", "07", "7 ", "\x07")], B("E"), B("SSC"), B("SS5"), S(0xF0)),
+    case("text_resets", "AS resets as E0H does: counters, runs, outputs and pulses, both permissions; all else stays, and the notice has the new address",
+         FULL, R(6, 0, 0xFF), B("E"), B("AS2"), R(6, 1, 0x31), [S(*c[3:4], *c[4], a=0x32) for c in SHOWN], LATER),
+    case("text_leaves_all",
+         "texts refused by every number but 12, and those that read or permit, leave all else alone; IS0, OS, OT change their own; SS resets",
+         FULL, B("OS1L", room=255), B(""), B("OS1L", end=""), B("OS1L", "2"), texts("IS0", "AS5", a="%"),
+         texts("os1L", "OS1", "OS01L0", "OS17L", "OT1L0", "IS1", "IS2", "RT0", "AS5", "SS7"), texts("AS5", "SS7", a="$"), B("OST1L", "%"),
+         texts("IR1", "OR1", "RT1", "IX", "E"), SHOWN, texts("IS0", "OS3H", "OT4L9"), S(0x33, 1, 2, 3, 4), S(0x11), S(0x10, 1, 0, 7, s=5), R(6, 0, 0xFF),
+         S(0xE4), B("SS6"), R(6, 1, 0x31), SHOWN, LATER),
+    case("text_resets_same", "AS and SS to what is set already reset too; refused ones do not",
+         COUNT3, texts("OT1H9", "AS1", "SS6"), S(0x60, 1), S(0x33, 1), texts("E", "AS1"), S(0x60, 1), S(0x33, 1), samples(0), texts("OS1H", "E", "SS6"),
+         S(0x60, 1), S(0x30)),
+    case("text_and_binary", "both formats and both ports in turn: what one sets the others show",
+         S(0x62, 1), samples(5), texts("IR: 1 2"), S(0x20, 0x82), B("OR2"), B("OS1H"), S(0x30), S(0x23, 4, 0x83), B("OR3"), R(5, 4, 0xFF00), B("OR5"),
+         B("OST5L255"), R(3, 504, 1)),
+    typed("text_own_fe", "an own address FE, which no run reaches: in text it is an address like any other", state("spinel", "port 0xFE 6 false"),
+          (B("E", "\xfe"), replied(0, "\xfe0")), (B("AS1", "\xfe"), replied(0, "\xfe0")), (B("IX"), replied(0, "100"))),
+    typed("text_own_ff", "an own address FF, the same: it is answered", state("spinel", "port 0xFF 6 false"),
+          (B("IX", "\xff"), replied(0, "\xff00")), (B("IX", "%"), (6, [])), (B("OR1", "$"), replied(0, "\xff0L"))),
+    typed("text_off_with_mask", "a notice that is off and has a mask, which no run reaches: IX is 0, and IS1 turns it on with all inputs",
+         state("notice", "notice 0 0x0001 0x05"),
+          (B("IX"), replied(0, "100")), (B("IS1"), replied(0, "10")), (S(0x11), ack(0x42, 0xFF, 0xFF))),
+]
+
 # States that no run reaches, the answers typed from docs/DECISIONS.md ----------------------------
 
 def lines_run(stable, run, number):
@@ -1161,7 +1341,9 @@ UNREACHED = [
     typed("counters_lacking", "a counter that the list lacks reads as 0 and stores nothing", inputs("replicate 16 fresh_line", "replicate 16 3", "[]", 1),
           (P(1), QUIET), (S(0x60, 1), ack(0x20, 0, 0, 0, 0)), (D((1, 1)), nack(11, 3)), (D((1, 0)), ack()), (S(0x60, 16), ack(0x20, 0, 0, 0, 0))),
     typed("format_other", "any format but 0 is on, and shows as it is stored", state("notice", "notice 0x01 0xFFFF 0x05"),
-          (S(0x11), ack(1, 0xFF, 0xFF)), (S(0x10, 1), nack(11, 3)), (S(0x62, 1), ack()), (P(1), (0, spinel_frame(0x31, 5, 0x0D, [0, 1])))),
+          (S(0x11), ack(1, 0xFF, 0xFF)), (S(0x10, 1), nack(11, 3)), (B("IX"), replied(0, "10\x01")), (S(0x62, 1), ack()), (P(1), (0, spinel_frame(0x31, 5, 0x0D, [0, 1])))),
+    typed("text_mask", "a text notice with a mask goes by it, and shows all inputs", state("notice", "notice 0x42 0x0002 0x05"),
+          (S(0x62, 1), ack()), (P(1), QUIET), (P(3), replied(0, "1D HHLLL LLLLL LLLLL L")), (P(2), QUIET), (S(0x11), ack(0x42, 0, 2))),
     typed("own_universal", "an own address FE is the universal one: no E4H, E0H", state("spinel", "port 0xFE 6 true"),
           (S(0xE0, 0x31, 6, a=0xFE), (10, spinel_frame(0xFE, 2, 4, []))), (S(0xE4, a=0xFE), (10, spinel_frame(0xFE, 2, 4, []))), (S(0x30), (5, [])),
           (S(0xF0, a=0xFE), (0, spinel_frame(0xFE, 2, 0, [0xFE, 6])))),
@@ -1236,6 +1418,34 @@ TALLIES = [
             X(0x60, 0x82), X(0x61, 0), X(0xE3), S(0xE4), X(0xE0, 0x31, 6)] + samples(0), [(1, 4, 1), (2, 4, 0)]),
     tallied("sum_test_turned", "EEH and FEH change nothing: a run of 1, number 2, goes on", COUNT3 + [D((1, 1)), S(0x62, 2)] + samples(0) + UNTESTED
             + [S(0xFE), S(0xEE, 1), S(0xE4), S(0xEE, 1), S(0xFE)] + samples(0), [(1, 4, 1), (2, 4, 0)]),
+    tallied("text_changes_nothing", "accepted texts (E2) but AS and SS change nothing: a run of 1, number 2, goes on",
+            COUNT3 + [D((1, 1)), S(0x62, 2)] + samples(0) + [T(291)]
+            + texts("IR: 1 016", "OR: 1 16", "OS: 1H 01L 016H", "OT: 1H1 16L255", "OST: 1H1 02L020", "RT: 1 001", "IS1", "IX", "IS0", "E", "E")
+            + [FAULT, B("RT1"), B("OS1H", "%"), B("OT2H1", "%"), B("IX", "$")] + samples(0), [(1, 4, 1), (2, 4, 0)]),
+    tallied("text_readdressed", "an accepted AS is a reset: a run of 1, number 2, does not go on",
+            COUNT3 + [D((1, 1)), S(0x62, 2)] + samples(0) + texts("E", "AS5") + samples(0, 3, 0, 0), [(1, 1, 0), (2, 1, 0)]),
+    tallied("text_speed_set", "and so is an accepted SS, also permitted by E4H, and where nothing changes",
+            COUNT3 + [D((1, 1)), S(0xE4), B("SS6")] + samples(0), [(1, 1, 0), (2, 1, 0)]),
+    tallied("text_new_address", "after AS frames to the new address count, those to the old one are refused by 5",
+            COUNT3 + texts("E", "AS5") + [D((1, 0))] + samples(0, 3, 0) + [D((1, 1)), D((1, 2), a=0x35), S(0x60, 0x81), S(0x60, 0x82, a=0x35)],
+            [(1, 3, 2), (2, 3, 3)]),
+    tallied("text_not_reset",
+            "refused ones are none: no permission, to $, another character, none, lower case, to all, a short buffer, no carriage return, another address",
+            COUNT3 + [D((1, 1))] + texts("AS1", "SS6")
+            + [c for r in texts("AS1", "SS6", a="$") + texts("AS", "AS11", "SSC", "as1", "ss6", "SA1") for c in (B("E"), r)]
+            + [B("E"), *texts("AS1", "SS6", a="%"), B("AS1", room=255), B("AS1", end="\n"), B("AS1", "2"), B("AS1", "\xfe"), B("IX"), B("SS6")] + samples(0),
+            [(1, 4, 1), (2, 4, 0)]),
+    tallied("text_by_e_0", "E permits E0H, which resets; E4H and E then permit one reset",
+            COUNT3 + [D((1, 1)), B("E"), S(0xE0, 0x31, 6)] + samples(0, 3) + [S(0xE4), B("E"), B("IX"), S(0xE0, 0x31, 6), B("AS1")], [(1, 2, 0), (2, 2, 0)]),
+    tallied("text_like_codes",
+            "prefix before code: refused texts whose seventh byte, an instruction's place, is 60H, 61H, 62H, 6AH, E0H, E3H or E4H, and what follows as its data",
+            COUNT3 + [D((1, 1))] + [B("OS1" + c) for c in ("\x60\x80", "\x61", "\x61\x00", "\x62\x05", "\x6a\x01\x00", "\xe0\x31\x06", "\xe3", "\xe4")]
+            + [B("xxx" + c) for c in ("\x60\x82\x00", "\x61\x00\x00", "\x62\x05\x00", "\x6a\x01\x00\x00", "\xe3\x00", "\xe4\x00")] + [S(0xE0, 0x31,
+            6)] + samples(0),
+            [(1, 4, 1), (2, 4, 0)]),
+    tallied("binary_like_text", "prefix before code: to address 53H, S, a 61H of twelve items has AS in its bytes 4 and 5, and is no reset; it collects",
+            COUNT3 + moved(0x53) + samples(0, 3)
+            + [D((1, 1), *[(k, 0) for k in range(3, 13)], (2, 2), a=0x53), S(0x60, 1, a=0x53)] + samples(0), [(1, 3, 1), (2, 3, 2)]),
 ]
 
 # What claims are said with: the parts that a call may change, and the calls that reset -----------------------
@@ -1250,6 +1460,14 @@ BY_SPINEL = {0x10: "format mask signature", 0x1A: "thermostats", 0x20: "outputs"
 BY_REGISTER = {**dict.fromkeys((1, 2), ZEROED + " modbus_address modbus_speed"), **dict.fromkeys((100, 115, 200, 215), "counters"),
                **dict.fromkeys((300, 315), "modes"), **dict.fromkeys((500, 515), "outputs"), **dict.fromkeys((600, 663), "thermostats")}
 BESIDE = [0, 3, 99, 116, 199, 216, 299, 316, 499, 516, 599, 664]
+
+
+# texts (E2): what each code may change
+BY_TEXT = [
+    ("ir", "IR1", ""), ("or", "OR1", ""), ("os", "OS1H", "outputs"), ("ot", "OT1H1", "outputs"), ("ost", "OST1H1", "outputs"), ("rt", "RT1", ""),
+    ("is", "IS1", "format mask"), ("ix", "IX", ""), ("e", "E", ""), ("as", "AS5", ZEROED + " spinel_address"), ("ss", "SS7", ZEROED + " spinel_speed"),
+    ("ort", "ORT1", ""), ("none", "x", ""), ("lower", "as5", ""),
+]
 
 
 def leaving(name, call, changed):
@@ -1277,6 +1495,8 @@ LEFT = [
     leaving("sample", P(0), "stable run counters outputs"), leaving("temperature", T(0), "reading last outputs"),
     *[by_spinel(code) for code in (0x0F, 0x10, 0x11, 0x1A, 0x1B, 0x20, 0x22, 0x23, 0x24, 0x25, 0x26, 0x30, 0x51, 0x60, 0x61, 0x62, 0x63, 0x6A,
                                    0x6B, 0xDF, 0xE0, 0xE1, 0xE3, 0xE4, 0xED, 0xEE, 0xEF, 0xF0, 0xFD, 0xFE, 0xFF)],
+    *[leaving("text_" + name, B(text), changed + " spinel_permission") for name, text, changed in BY_TEXT],
+    leaving("code_like_text", LIKE_TEXT, "counters spinel_permission"),
     *[by_modbus("register%d" % r, R(6, r, 0), BY_REGISTER.get(r, "")) for r in sorted([*BY_REGISTER, *BESIDE])],
     *[by_modbus("several%d" % r, W(r, 0), BY_REGISTER[r]) for r in (1, 100, 600)],
     by_modbus("coil", R(5, 0, 0), "outputs"), by_modbus("coils", C(0, 1, 0), "outputs"),
@@ -1289,6 +1509,8 @@ RESETS = [
     *[("by_register_%d" % r, R(6, r, 0), r in (1, 2)) for r in (0, 1, 2, 3)], *[("by_several_%d" % r, W(r, 0), r in (1, 2)) for r in (0, 1, 2, 3)],
     ("by_read", R(3, 1, 1), False), ("by_coil", R(5, 1, 0), False), ("by07", M(7, 0, 1, 0, 0), False), ("by_coils", C(1, 1, 0), False),
     ("by11", M(0x11, 0, 1, 0, 0), False), ("by_sample", P(0), False), ("by_temperature", T(0), False),
+    *[("by_text_" + name, B(text), name in ("as", "ss")) for name, text, _ in BY_TEXT], ("by_text_is_off", B("IS0"), False),
+    ("by_text_like_code", B("OS1\xe3"), False), ("by_code_like_text", LIKE_TEXT, False),
 ]
 
 # One input alone (E3): its accepted bits, and what a module holds of it after some samples -----------------------------
@@ -1306,10 +1528,10 @@ def around(number, outputs, presets, thermostats, notice, readings, tested, *por
 # what the inputs stand among: outputs and their pulses, presets, thermostats, the notice, readings, the ports
 AROUND = {
     "fresh_module": reference.Module(),
-    "busy": around(1, [(1, 2), (0, 1), (1, 0)], [(2, 5), (3, 255), (0, 9)], [(0x81, 300, 200, 0, 1), (0xD1, 0, -5, 9, 2), (0x29, 5, 5, 1, 0)], (True, 0xFFFF, 7),
-                   (250, 250), False, (0x32, 7, True), (5, 3, True)),
-    "hot": around(3, [(0, 500), (1, 3), (0, 0)], [(0, 0), (2, 1), (3, 3)], [(0xA9, 250, 200, 0, 2), (0, 1, 2, 3, 2), (0x81, -1, -2, 0, 0)], (True, 0x0110, 0x5A),
-                  (None, 301), True, (0x31, 6, False), (0x31, 6, True)),
+    "busy": around(1, [(1, 2), (0, 1), (1, 0)], [(2, 5), (3, 255), (0, 9)], [(0x81, 300, 200, 0, 1), (0xD1, 0, -5, 9, 2), (0x29, 5, 5, 1, 0)],
+                   (reference.BINARY, 0xFFFF, 7), (250, 250), False, (0x32, 7, True), (5, 3, True)),
+    "hot": around(3, [(0, 500), (1, 3), (0, 0)], [(0, 0), (2, 1), (3, 3)], [(0xA9, 250, 200, 0, 2), (0, 1, 2, 3, 2), (0x81, -1, -2, 0, 0)],
+                  (reference.BINARY, 0x0110, 0x5A), (None, 301), True, (0x31, 6, False), (0x31, 6, True)),
 }
 
 

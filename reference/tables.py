@@ -1,6 +1,6 @@
 #!/usr/bin/env python3
 """Writes the tables of closed cases of crates/model/proofs: Computing, RackTable, Witnesses, FrameTable, SampleTable, CounterTable,
-PortTable, OutputTable, NoticeTable, ThermostatTable, RegisterTable, CoilTable, UnreachedTable, TallyTable, ClaimTable, AloneTable.
+PortTable, OutputTable, NoticeTable, ThermostatTable, RegisterTable, CoilTable, TextTable, UnreachedTable, TallyTable, ClaimTable, AloneTable.
 
 Usage:  reference/tables.py         writes them as rt fmt lays them out
         reference/tables.py --count prints how many rows there are
@@ -19,9 +19,10 @@ import rows
 
 ROOT = os.path.dirname(os.path.dirname(os.path.abspath(__file__)))
 PROOFS = os.path.join(ROOT, "crates/model/proofs/")
-SPECS = """State Times Samples Frames Refusals Wire Counters SumTest Temperature Outputs Notice Registers Spinel Modbus Call Calls Demand1 Tally
+SPECS = """State Times Samples Frames Refusals Wire Counters SumTest Temperature Outputs Text Notice Registers Spinel Modbus Call Calls Demand1 Tally
 Cycles Parts Alone""".split()
 LISTS = "Tests Mapi Walk Numbers Chunks Entries".split()
+TEXT = [0x2A, 0x42]  # what a text begins with
 SHUT = {"done", "walk", "all_pass", "some_below", "entries_of", "entry_added"}
 WIDTH = 150
 
@@ -124,7 +125,7 @@ def modbus_answer(n, bs):
 def answer_text(c, n, bs):
     if not bs:
         return f"silently {n}"
-    if c[0].endswith("bytes"):
+    if c[0].endswith("bytes") or bs[:2] == TEXT:
         return f"reply {n} {hex_list(bs)}"
     return modbus_answer(n, bs) if c[0] == "modbus" else spinel_answer(n, bs)
 
@@ -231,7 +232,7 @@ abbrev {name} : Module
     sampling = {m.n};
     presets = {kept("preset", [(out.ptype, out.ptime) for out in m.out])};
     thermostats = {kept("thermostat", thermostats)};
-    notice = notice {hexed(0x61 if m.notice else 0)} 0x{m.mask:04X} {hexed(m.sig)};
+    notice = notice {hexed(m.notice)} 0x{m.mask:04X} {hexed(m.sig)};
     sum_tested = {said(m.tested)};
   }};
   reading = {read_text(m.reading)};
@@ -447,6 +448,7 @@ TABLES = [
     ("ThermostatTable", "01, Temperature: readings, 51H 1AH 1BH, thermostats, holding.", rows.THERMOSTATS),
     ("RegisterTable", "01, Registers: 03 06 10H on every group, on both sides of it.", rows.REGISTERS),
     ("CoilTable", "01, Registers: 01 02 05 0F.", rows.COILS),
+    ("TextTable", "02, E2: frames in characters, their codes, limits, permission and notice.", rows.TEXTS),
     ("UnreachedTable", "States that no run reaches: what the definitions say of them, as docs/DECISIONS.md tells.", rows.UNREACHED),
 ]
 

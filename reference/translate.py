@@ -16,7 +16,7 @@ ROOT = os.path.dirname(os.path.dirname(os.path.abspath(__file__)))
 FOLDERS = {"lists": "crates/lists/specs", "model": "crates/model/specs", "proofs": "crates/model/proofs"}
 FILES = {
     "lists": "Tests Mapi Walk Numbers Chunks Entries Data".split(),
-    "model": """State Times Samples Frames Refusals Wire Counters SumTest Temperature Outputs Notice Registers Spinel Modbus Call Calls
+    "model": """State Times Samples Frames Refusals Wire Counters SumTest Temperature Outputs Text Notice Registers Spinel Modbus Call Calls
              Demand1 Tally Cycles Parts Alone""".split(),
     "proofs": "Exchanges Wraps Readings Puts GroupTable ClaimTable AloneTable".split(),
 }
@@ -381,7 +381,8 @@ def noting(called, key, function):
 
 # Python -------------------------------------------------------------------------------
 
-CONSTRUCTORS = {"Valid": 2, "Fault": 0, "sample": 1, "temperature": 2, "spinel": 1, "modbus": 1}
+CODES = "ReadInput ReadOutput SetOutput PulseOutput ReadTemperature SetNotice ReadNotice GivePermission SetAddress SetSpeed".split()
+CONSTRUCTORS = {"Valid": 2, "Fault": 0, "sample": 1, "temperature": 2, "spinel": 1, "modbus": 1, "Some": 1, "None": 0, **dict.fromkeys(CODES, 0)}
 INLINE = {"eqb": "(%s == %s)", "leb": "(%s <= %s)", "ltb": "(%s < %s)", "not": "(not %s)", "length": "len(%s)",
           "cond": "(%s if %s else %s)"}
 SIGNS = {"∷": "((%s,) + %s)", "++": "(%s + %s)", "&&": "(%s and %s)", "||": "(%s or %s)", "-": "subtract(%s, %s)", "/": "divide(%s, %s)",
@@ -391,7 +392,7 @@ BESIDE = {name: file + "." + name for file, names in [
     ("State", "with_spinel with_modbus with_counters with_modes"),
     ("Frames", "spinel_to modbus_to spinel_broadcast modbus_broadcast signature_of instruction_of"),
     ("Refusals", "spinel_address_wrong modbus_address_wrong spinel_broadcast_wrong modbus_broadcast_wrong sum_wrong crc_wrong ack_of exception_of"),
-    ("Spinel", "spinel_wire"), ("Modbus", "modbus_wire")] for name in names.split()}
+    ("Spinel", "spinel_wire"), ("Modbus", "modbus_wire"), ("Text", "text_wire text_universal text_broadcast")] for name in names.split()}
 CONSTANTS = {"true": "True", "false": "False", "zero": "0", "binary32": "None", "tt": "()"}
 # fields that hold a function which is asked for the same again and again
 REMEMBERED = {"input"}

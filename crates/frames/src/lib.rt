@@ -1,4 +1,4 @@
-// Checks 2 to 6 of both ports' frames (01, the refusals), and where their data stand.
+// Checks 2 to 6 of binary frames on both ports (01, the refusals), and where their data stand; and what text frames share with them.
 #![tactic(auto)]
 
 ghost use Rattle.std.specs.Prelude.{◌≡◌, ◌≤◌, ◌+◌, ◌-◌, true, cond, ◌&&◌, length, take, drop, IfOk};
@@ -11,13 +11,13 @@ ghost use Rattle.model.specs.Modbus.{modbus_wire};
 
 use model::Refusal;
 
-// 2. Fewer bytes than the least, or more than 256.
+// 2. Fewer bytes than the least of its kind, or more than the most.
 #[tactic(auto, unfolding(lists::specs::Tests::within))]
-fn length_refusal(least: usize, frame: &[u8]) -> Result<(), Refusal>
-    ensures number { refused_by result ≡ cond (frame_length_wrong least frame.now) 2 0 }
+pub fn length_refusal(least: usize, most: usize, frame: &[u8]) -> Result<(), Refusal>
+    ensures number { refused_by result ≡ cond (frame_length_wrong least most frame.now) 2 0 }
     ensures long { IfOk result (λ _. least ≤ length frame.now) }
 {
-    let fits = (least..=256).contains(&frame.len());
+    let fits = (least..=most).contains(&frame.len());
     encoding::refused_if(!fits, Refusal::FrameLength)
 }
 
@@ -102,7 +102,7 @@ fn modbus_broadcast_refusal(to: u8, function: u8) -> Result<(), Refusal>
 pub fn spinel_refusal(tested: bool, own: u8, frame: &[u8]) -> Result<(), Refusal>
     ensures { refused_by result ≡ frame_refusal spinel_wire tested own frame.now }
 {
-    length_refusal(9, frame)?;
+    length_refusal(9, 256, frame)?;
     shape_refusal(frame)?;
     sum_refusal(tested, frame)?;
     spinel_address_refusal(own, frame[4])?;
@@ -114,17 +114,17 @@ pub fn spinel_refusal(tested: bool, own: u8, frame: &[u8]) -> Result<(), Refusal
 pub fn modbus_refusal(own: u8, frame: &[u8]) -> Result<(), Refusal>
     ensures { refused_by result ≡ frame_refusal modbus_wire true own frame.now }
 {
-    length_refusal(4, frame)?;
+    length_refusal(4, 256, frame)?;
     crc_refusal(frame)?;
     modbus_address_refusal(own, frame[0])?;
     modbus_broadcast_refusal(frame[0], frame[1])
 }
 
-// The bytes from `start` to the last two; none where the frame is too short.
-fn between(start: usize, frame: &[u8]) -> &[u8]
-    ensures { result.now ≡ take (length frame.now - (start + 2)) (drop start frame.now) }
+// The bytes from `start` on, without the `last` at the end; none where the frame is too short.
+pub fn between(start: usize, last: usize, frame: &[u8]) -> &[u8]
+    ensures { result.now ≡ take (length frame.now - (start + last)) (drop start frame.now) }
 {
-    let end = frame.len().saturating_sub(2);
+    let end = frame.len().saturating_sub(last);
     frame.get(start..end).unwrap_or(&[])
 }
 
@@ -132,12 +132,12 @@ fn between(start: usize, frame: &[u8]) -> &[u8]
 pub fn spinel_data(frame: &[u8]) -> &[u8]
     ensures { result.now ≡ spinel_data frame.now }
 {
-    between(7, frame)
+    between(7, 2, frame)
 }
 
 // The body of a Modbus frame: all between function and CRC.
 pub fn modbus_body(frame: &[u8]) -> &[u8]
     ensures { result.now ≡ modbus_body frame.now }
 {
-    between(2, frame)
+    between(2, 2, frame)
 }

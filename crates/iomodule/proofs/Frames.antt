@@ -1,5 +1,5 @@
 -- From a frame that was handled to the call's answer. Assumes nothing.
-use Rattle.std.proofs.Common.{◌≡◌, ap, ◌∙◌, ℕ, ◌≤◌, List, length}
+use Rattle.std.proofs.Common.{◌≡◌, true, false, ap, ◌∙◌, ℕ, ◌≤◌, List, length}
 use Rattle.lists.specs.Data.{bytes_in, over}
 use Rattle.lists.proofs.DataLaws.{bytes_in_lem}
 use Rattle.model.specs.declared.Module.{Module}
@@ -8,6 +8,7 @@ use Rattle.model.specs.Numbers.{refusal_in}
 use Rattle.model.specs.Refusals.{Out}
 use Rattle.model.specs.Wire.{frame_handled, frame_call}
 use Rattle.model.specs.Spinel.{spinel_wire}
+use Rattle.model.specs.Text.{is_text, text_wire}
 use Rattle.model.specs.Modbus.{modbus_wire}
 use Rattle.model.specs.Call.{call, spinel, modbus}
 use Rattle.model.specs.Calls.{step, Answered}
@@ -16,9 +17,13 @@ use Rattle.outcomes.specs.declared.Handled.{Handled}
 use Rattle.model.proofs.Refused.{refusals_hold}
 
 -- every reply fits the lent buffer, by demand 1
-pub spinel_room : (f : List ℕ) (m : Module) → length (frame_handled spinel_wire f m).reply ≤ 256
+pub spinel_room : (f : List ℕ) (m : Module) → is_text f ≡ false → length (frame_handled spinel_wire f m).reply ≤ 256
 unfolding step frame_call
-spinel_room f m = (refusals_hold m (call 256 (spinel f))).fits
+spinel_room f m e = rw e at (refusals_hold m (call 256 (spinel f))).fits
+
+pub text_room : (f : List ℕ) (m : Module) → is_text f ≡ true → length (frame_handled text_wire f m).reply ≤ 256
+unfolding step frame_call
+text_room f m e = rw e at (refusals_hold m (call 256 (spinel f))).fits
 
 pub modbus_room : (f : List ℕ) (m : Module) → length (frame_handled modbus_wire f m).reply ≤ 256
 unfolding step frame_call

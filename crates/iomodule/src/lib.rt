@@ -16,7 +16,9 @@ ghost use Rattle.sampling.specs.Parts.{bytes_of};
 use modbus::ModbusWire;
 use model::{Answer, Module, Refusal};
 use outcomes::Handled;
+use sampling::NoticeFrame;
 use spinel::SpinelWire;
+use text_port::TextWire;
 use wires::Wire;
 
 // The fifth call: the fresh state.
@@ -69,13 +71,14 @@ fn reply_out(h: Handled, reply: &mut [u8]) -> Answer
 }
 
 // The notice of a sample written, where there is one; how many bytes it has.
-fn notice_out(notice: Option<[u8; 11]>, reply: &mut [u8]) -> usize
-    requires { 11 ≤ length reply.old }
+fn notice_out(notice: Option<NoticeFrame>, reply: &mut [u8]) -> usize
+    requires { 25 ≤ length reply.old }
     ensures value { result ≡ length (bytes_of notice) }
     ensures reply_after { reply.new ≡ over (bytes_of notice) reply.old }
 {
     match notice {
-        Some(frame) => write_out(&frame, reply),
+        Some(NoticeFrame::Binary(frame)) => write_out(&frame, reply),
+        Some(NoticeFrame::Text(frame)) => write_out(&frame, reply),
         None => 0,
     }
 }
@@ -122,11 +125,14 @@ pub fn temperature(m: Module, good: bool, tenths: i16) -> Answer
     }
 }
 
-// A frame on the Spinel port.
-#[tactic(auto, using(crate::proofs::Frames::spinel_room))]
+// A frame on the Spinel port, text or binary by its first two bytes (E2).
+#[tactic(auto, using(crate::proofs::Frames::spinel_room, crate::proofs::Frames::text_room))]
 pub fn spinel(m: Module, frame: &[u8], reply: &mut [u8]) -> Answer
     ensures { Answered (spinel_call (length reply.old) frame.now m) result reply.old reply.new }
 {
+    if text_frames::is_text(frame) {
+        return frame_call::<TextWire>(m, frame, reply);
+    }
     frame_call::<SpinelWire>(m, frame, reply)
 }
 

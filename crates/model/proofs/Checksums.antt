@@ -24,6 +24,7 @@ unchecked_wire = record {
   port = modbus_wire.port;
   with_port = modbus_wire.with_port;
   least = modbus_wire.least;
+  most = modbus_wire.most;
   shape_wrong = modbus_wire.shape_wrong;
   check_wrong = λ f. false;
   check_tested = modbus_wire.check_tested;

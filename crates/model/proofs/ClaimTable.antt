@@ -14,7 +14,7 @@ use Rattle.model.specs.declared.Module.{Module}
 use Rattle.model.specs.Temperature.{reading_words}
 use Rattle.model.specs.Demand1.{resets_module}
 use Rattle.model.specs.Parts.{leaves}
-use Rattle.model.proofs.Exchanges.{sample_of, temperature_of, asked, sent, requested, written, switched}
+use Rattle.model.proofs.Exchanges.{sample_of, temperature_of, spinel_frame, asked, asked_at, sent, requested, written, switched}
 
 -- a state of which every part shows a number of its own, 1 to 20
 abbrev marked : Module
@@ -98,6 +98,25 @@ pub record ClaimTable : Type 0 where
   pub spinel_fd : left (asked 0xFD []) ≡ 1 ∷ 2 ∷ 3 ∷ 4 ∷ 5 ∷ 6 ∷ 7 ∷ 8 ∷ 9 ∷ 10 ∷ 11 ∷ 12 ∷ 13 ∷ 14 ∷ 15 ∷ 16 ∷ 0 ∷ 18 ∷ 19 ∷ 20 ∷ []
   pub spinel_fe : left (asked 0xFE []) ≡ 1 ∷ 2 ∷ 3 ∷ 4 ∷ 5 ∷ 6 ∷ 7 ∷ 8 ∷ 9 ∷ 10 ∷ 11 ∷ 12 ∷ 13 ∷ 14 ∷ 15 ∷ 16 ∷ 0 ∷ 18 ∷ 19 ∷ 20 ∷ []
   pub spinel_ff : left (asked 0xFF []) ≡ 1 ∷ 2 ∷ 3 ∷ 4 ∷ 5 ∷ 6 ∷ 7 ∷ 8 ∷ 9 ∷ 10 ∷ 11 ∷ 12 ∷ 13 ∷ 14 ∷ 15 ∷ 16 ∷ 0 ∷ 18 ∷ 19 ∷ 20 ∷ []
+  pub text_ir : left (spinel_frame (0x2A ∷ 0x42 ∷ 0x31 ∷ 0x49 ∷ 0x52 ∷ 0x31 ∷ 0x0D ∷ [])) ≡ 1 ∷ 2 ∷ 3 ∷ 4 ∷ 5 ∷ 6 ∷ 7 ∷ 8 ∷ 9 ∷ 10 ∷ 11 ∷ 12 ∷ 13 ∷ 14 ∷ 15 ∷ 16 ∷ 0 ∷ 18 ∷ 19 ∷ 20 ∷ []
+  pub text_or : left (spinel_frame (0x2A ∷ 0x42 ∷ 0x31 ∷ 0x4F ∷ 0x52 ∷ 0x31 ∷ 0x0D ∷ [])) ≡ 1 ∷ 2 ∷ 3 ∷ 4 ∷ 5 ∷ 6 ∷ 7 ∷ 8 ∷ 9 ∷ 10 ∷ 11 ∷ 12 ∷ 13 ∷ 14 ∷ 15 ∷ 16 ∷ 0 ∷ 18 ∷ 19 ∷ 20 ∷ []
+  pub text_os : left (spinel_frame (0x2A ∷ 0x42 ∷ 0x31 ∷ 0x4F ∷ 0x53 ∷ 0x31 ∷ 0x48 ∷ 0x0D ∷ [])) ≡ 1 ∷ 2 ∷ 3 ∷ 4 ∷ 5 ∷ 0 ∷ 7 ∷ 8 ∷ 9 ∷ 10 ∷ 11 ∷ 12 ∷ 13 ∷ 14 ∷ 15 ∷ 16 ∷ 0 ∷ 18 ∷ 19 ∷ 20 ∷ []
+  pub text_ot : left (spinel_frame (0x2A ∷ 0x42 ∷ 0x31 ∷ 0x4F ∷ 0x54 ∷ 0x31 ∷ 0x48 ∷ 0x31 ∷ 0x0D ∷ [])) ≡ 1 ∷ 2 ∷ 3 ∷ 4 ∷ 5 ∷ 0 ∷ 7 ∷ 8 ∷ 9 ∷ 10 ∷ 11 ∷ 12 ∷ 13 ∷ 14 ∷ 15 ∷ 16 ∷ 0 ∷ 18 ∷ 19 ∷ 20 ∷ []
+  pub text_ost : left (spinel_frame (0x2A ∷ 0x42 ∷ 0x31 ∷ 0x4F ∷ 0x53 ∷ 0x54 ∷ 0x31 ∷ 0x48 ∷ 0x31 ∷ 0x0D ∷ [])) ≡ 1 ∷ 2 ∷ 3 ∷ 4 ∷ 5 ∷ 0 ∷ 7 ∷ 8 ∷ 9 ∷ 10 ∷ 11 ∷ 12 ∷ 13 ∷ 14 ∷ 15 ∷ 16 ∷ 0 ∷ 18 ∷ 19 ∷ 20 ∷ []
+  pub text_rt : left (spinel_frame (0x2A ∷ 0x42 ∷ 0x31 ∷ 0x52 ∷ 0x54 ∷ 0x31 ∷ 0x0D ∷ [])) ≡ 1 ∷ 2 ∷ 3 ∷ 4 ∷ 5 ∷ 6 ∷ 7 ∷ 8 ∷ 9 ∷ 10 ∷ 11 ∷ 12 ∷ 13 ∷ 14 ∷ 15 ∷ 16 ∷ 0 ∷ 18 ∷ 19 ∷ 20 ∷ []
+  pub text_is : left (spinel_frame (0x2A ∷ 0x42 ∷ 0x31 ∷ 0x49 ∷ 0x53 ∷ 0x31 ∷ 0x0D ∷ [])) ≡ 1 ∷ 2 ∷ 3 ∷ 4 ∷ 5 ∷ 6 ∷ 7 ∷ 8 ∷ 9 ∷ 10 ∷ 0 ∷ 0 ∷ 13 ∷ 14 ∷ 15 ∷ 16 ∷ 0 ∷ 18 ∷ 19 ∷ 20 ∷ []
+  pub text_ix : left (spinel_frame (0x2A ∷ 0x42 ∷ 0x31 ∷ 0x49 ∷ 0x58 ∷ 0x0D ∷ [])) ≡ 1 ∷ 2 ∷ 3 ∷ 4 ∷ 5 ∷ 6 ∷ 7 ∷ 8 ∷ 9 ∷ 10 ∷ 11 ∷ 12 ∷ 13 ∷ 14 ∷ 15 ∷ 16 ∷ 0 ∷ 18 ∷ 19 ∷ 20 ∷ []
+  pub text_e : left (spinel_frame (0x2A ∷ 0x42 ∷ 0x31 ∷ 0x45 ∷ 0x0D ∷ [])) ≡ 1 ∷ 2 ∷ 3 ∷ 4 ∷ 5 ∷ 6 ∷ 7 ∷ 8 ∷ 9 ∷ 10 ∷ 11 ∷ 12 ∷ 13 ∷ 14 ∷ 15 ∷ 16 ∷ 0 ∷ 18 ∷ 19 ∷ 20 ∷ []
+  pub text_as : left (spinel_frame (0x2A ∷ 0x42 ∷ 0x31 ∷ 0x41 ∷ 0x53 ∷ 0x35 ∷ 0x0D ∷ [])) ≡ 1 ∷ 0 ∷ 3 ∷ 0 ∷ 5 ∷ 0 ∷ 7 ∷ 8 ∷ 9 ∷ 10 ∷ 11 ∷ 12 ∷ 13 ∷ 14 ∷ 0 ∷ 16 ∷ 0 ∷ 18 ∷ 19 ∷ 0 ∷ []
+  pub text_ss : left (spinel_frame (0x2A ∷ 0x42 ∷ 0x31 ∷ 0x53 ∷ 0x53 ∷ 0x37 ∷ 0x0D ∷ [])) ≡ 1 ∷ 0 ∷ 3 ∷ 0 ∷ 5 ∷ 0 ∷ 7 ∷ 8 ∷ 9 ∷ 10 ∷ 11 ∷ 12 ∷ 13 ∷ 14 ∷ 15 ∷ 0 ∷ 0 ∷ 18 ∷ 19 ∷ 0 ∷ []
+  pub text_ort : left (spinel_frame (0x2A ∷ 0x42 ∷ 0x31 ∷ 0x4F ∷ 0x52 ∷ 0x54 ∷ 0x31 ∷ 0x0D ∷ [])) ≡ 1 ∷ 2 ∷ 3 ∷ 4 ∷ 5 ∷ 6 ∷ 7 ∷ 8 ∷ 9 ∷ 10 ∷ 11 ∷ 12 ∷ 13 ∷ 14 ∷ 15 ∷ 16 ∷ 0 ∷ 18 ∷ 19 ∷ 20 ∷ []
+  pub text_none : left (spinel_frame (0x2A ∷ 0x42 ∷ 0x31 ∷ 0x78 ∷ 0x0D ∷ [])) ≡ 1 ∷ 2 ∷ 3 ∷ 4 ∷ 5 ∷ 6 ∷ 7 ∷ 8 ∷ 9 ∷ 10 ∷ 11 ∷ 12 ∷ 13 ∷ 14 ∷ 15 ∷ 16 ∷ 0 ∷ 18 ∷ 19 ∷ 20 ∷ []
+  pub text_lower : left (spinel_frame (0x2A ∷ 0x42 ∷ 0x31 ∷ 0x61 ∷ 0x73 ∷ 0x35 ∷ 0x0D ∷ [])) ≡ 1 ∷ 2 ∷ 3 ∷ 4 ∷ 5 ∷ 6 ∷ 7 ∷ 8 ∷ 9 ∷ 10 ∷ 11 ∷ 12 ∷ 13 ∷ 14 ∷ 15 ∷ 16 ∷ 0 ∷ 18 ∷ 19 ∷ 20 ∷ []
+  pub code_like_text : left (asked_at 0x53 0x61 (0x01 ∷ 0x00 ∷ 0x00 ∷ 0x00 ∷ 0x00 ∷ 0x02 ∷ 0x00 ∷ 0x00 ∷ 0x00 ∷ 0x00 ∷ 0x03 ∷ 0x00 ∷ 0x00 ∷
+      0x00 ∷ 0x00 ∷ 0x04 ∷ 0x00 ∷ 0x00 ∷ 0x00 ∷ 0x00 ∷ 0x05 ∷ 0x00 ∷ 0x00 ∷ 0x00 ∷ 0x00 ∷ 0x06 ∷
+      0x00 ∷ 0x00 ∷ 0x00 ∷ 0x00 ∷ 0x07 ∷ 0x00 ∷ 0x00 ∷ 0x00 ∷ 0x00 ∷ 0x08 ∷ 0x00 ∷ 0x00 ∷ 0x00 ∷
+      0x00 ∷ 0x09 ∷ 0x00 ∷ 0x00 ∷ 0x00 ∷ 0x00 ∷ 0x0A ∷ 0x00 ∷ 0x00 ∷ 0x00 ∷ 0x00 ∷ 0x0B ∷ 0x00 ∷
+      0x00 ∷ 0x00 ∷ 0x00 ∷ 0x0C ∷ 0x00 ∷ 0x00 ∷ 0x00 ∷ 0x00 ∷ [])) ≡ 1 ∷ 2 ∷ 3 ∷ 0 ∷ 5 ∷ 6 ∷ 7 ∷ 8 ∷ 9 ∷ 10 ∷ 11 ∷ 12 ∷ 13 ∷ 14 ∷ 15 ∷ 16 ∷ 0 ∷ 18 ∷ 19 ∷ 20 ∷ []
   pub register0 : left (requested 0x06 0 0) ≡ 1 ∷ 2 ∷ 3 ∷ 4 ∷ 5 ∷ 6 ∷ 7 ∷ 8 ∷ 9 ∷ 10 ∷ 11 ∷ 12 ∷ 13 ∷ 14 ∷ 15 ∷ 16 ∷ 17 ∷ 18 ∷ 19 ∷ 0 ∷ []
   pub register1 : left (requested 0x06 1 0) ≡ 1 ∷ 0 ∷ 3 ∷ 0 ∷ 5 ∷ 0 ∷ 7 ∷ 8 ∷ 9 ∷ 10 ∷ 11 ∷ 12 ∷ 13 ∷ 14 ∷ 15 ∷ 16 ∷ 0 ∷ 0 ∷ 0 ∷ 0 ∷ []
   pub register2 : left (requested 0x06 2 0) ≡ 1 ∷ 0 ∷ 3 ∷ 0 ∷ 5 ∷ 0 ∷ 7 ∷ 8 ∷ 9 ∷ 10 ∷ 11 ∷ 12 ∷ 13 ∷ 14 ∷ 15 ∷ 16 ∷ 0 ∷ 0 ∷ 0 ∷ 0 ∷ []
@@ -155,6 +174,27 @@ pub record ClaimTable : Type 0 where
   pub by11 : resets_module (sent 0x11 (0x00 ∷ 0x01 ∷ 0x00 ∷ 0x00 ∷ [])).act ≡ false
   pub by_sample : resets_module (sample_of 0).act ≡ false
   pub by_temperature : resets_module (temperature_of true (pos 0)).act ≡ false
+  pub by_text_ir : resets_module (spinel_frame (0x2A ∷ 0x42 ∷ 0x31 ∷ 0x49 ∷ 0x52 ∷ 0x31 ∷ 0x0D ∷ [])).act ≡ false
+  pub by_text_or : resets_module (spinel_frame (0x2A ∷ 0x42 ∷ 0x31 ∷ 0x4F ∷ 0x52 ∷ 0x31 ∷ 0x0D ∷ [])).act ≡ false
+  pub by_text_os : resets_module (spinel_frame (0x2A ∷ 0x42 ∷ 0x31 ∷ 0x4F ∷ 0x53 ∷ 0x31 ∷ 0x48 ∷ 0x0D ∷ [])).act ≡ false
+  pub by_text_ot : resets_module (spinel_frame (0x2A ∷ 0x42 ∷ 0x31 ∷ 0x4F ∷ 0x54 ∷ 0x31 ∷ 0x48 ∷ 0x31 ∷ 0x0D ∷ [])).act ≡ false
+  pub by_text_ost : resets_module (spinel_frame (0x2A ∷ 0x42 ∷ 0x31 ∷ 0x4F ∷ 0x53 ∷ 0x54 ∷ 0x31 ∷ 0x48 ∷ 0x31 ∷ 0x0D ∷ [])).act ≡ false
+  pub by_text_rt : resets_module (spinel_frame (0x2A ∷ 0x42 ∷ 0x31 ∷ 0x52 ∷ 0x54 ∷ 0x31 ∷ 0x0D ∷ [])).act ≡ false
+  pub by_text_is : resets_module (spinel_frame (0x2A ∷ 0x42 ∷ 0x31 ∷ 0x49 ∷ 0x53 ∷ 0x31 ∷ 0x0D ∷ [])).act ≡ false
+  pub by_text_ix : resets_module (spinel_frame (0x2A ∷ 0x42 ∷ 0x31 ∷ 0x49 ∷ 0x58 ∷ 0x0D ∷ [])).act ≡ false
+  pub by_text_e : resets_module (spinel_frame (0x2A ∷ 0x42 ∷ 0x31 ∷ 0x45 ∷ 0x0D ∷ [])).act ≡ false
+  pub by_text_as : resets_module (spinel_frame (0x2A ∷ 0x42 ∷ 0x31 ∷ 0x41 ∷ 0x53 ∷ 0x35 ∷ 0x0D ∷ [])).act ≡ true
+  pub by_text_ss : resets_module (spinel_frame (0x2A ∷ 0x42 ∷ 0x31 ∷ 0x53 ∷ 0x53 ∷ 0x37 ∷ 0x0D ∷ [])).act ≡ true
+  pub by_text_ort : resets_module (spinel_frame (0x2A ∷ 0x42 ∷ 0x31 ∷ 0x4F ∷ 0x52 ∷ 0x54 ∷ 0x31 ∷ 0x0D ∷ [])).act ≡ false
+  pub by_text_none : resets_module (spinel_frame (0x2A ∷ 0x42 ∷ 0x31 ∷ 0x78 ∷ 0x0D ∷ [])).act ≡ false
+  pub by_text_lower : resets_module (spinel_frame (0x2A ∷ 0x42 ∷ 0x31 ∷ 0x61 ∷ 0x73 ∷ 0x35 ∷ 0x0D ∷ [])).act ≡ false
+  pub by_text_is_off : resets_module (spinel_frame (0x2A ∷ 0x42 ∷ 0x31 ∷ 0x49 ∷ 0x53 ∷ 0x30 ∷ 0x0D ∷ [])).act ≡ false
+  pub by_text_like_code : resets_module (spinel_frame (0x2A ∷ 0x42 ∷ 0x31 ∷ 0x4F ∷ 0x53 ∷ 0x31 ∷ 0xE3 ∷ 0x0D ∷ [])).act ≡ false
+  pub by_code_like_text : resets_module (asked_at 0x53 0x61 (0x01 ∷ 0x00 ∷ 0x00 ∷ 0x00 ∷ 0x00 ∷ 0x02 ∷ 0x00 ∷ 0x00 ∷ 0x00 ∷ 0x00 ∷ 0x03 ∷ 0x00 ∷ 0x00 ∷
+      0x00 ∷ 0x00 ∷ 0x04 ∷ 0x00 ∷ 0x00 ∷ 0x00 ∷ 0x00 ∷ 0x05 ∷ 0x00 ∷ 0x00 ∷ 0x00 ∷ 0x00 ∷ 0x06 ∷
+      0x00 ∷ 0x00 ∷ 0x00 ∷ 0x00 ∷ 0x07 ∷ 0x00 ∷ 0x00 ∷ 0x00 ∷ 0x00 ∷ 0x08 ∷ 0x00 ∷ 0x00 ∷ 0x00 ∷
+      0x00 ∷ 0x09 ∷ 0x00 ∷ 0x00 ∷ 0x00 ∷ 0x00 ∷ 0x0A ∷ 0x00 ∷ 0x00 ∷ 0x00 ∷ 0x00 ∷ 0x0B ∷ 0x00 ∷
+      0x00 ∷ 0x00 ∷ 0x00 ∷ 0x0C ∷ 0x00 ∷ 0x00 ∷ 0x00 ∷ 0x00 ∷ [])).act ≡ false
 
 pub claim_table : ClaimTable
 unfolding computing
@@ -192,6 +232,21 @@ claim_table = record {
   spinel_fd = refl;
   spinel_fe = refl;
   spinel_ff = refl;
+  text_ir = refl;
+  text_or = refl;
+  text_os = refl;
+  text_ot = refl;
+  text_ost = refl;
+  text_rt = refl;
+  text_is = refl;
+  text_ix = refl;
+  text_e = refl;
+  text_as = refl;
+  text_ss = refl;
+  text_ort = refl;
+  text_none = refl;
+  text_lower = refl;
+  code_like_text = refl;
   register0 = refl;
   register1 = refl;
   register2 = refl;
@@ -249,4 +304,21 @@ claim_table = record {
   by11 = refl;
   by_sample = refl;
   by_temperature = refl;
+  by_text_ir = refl;
+  by_text_or = refl;
+  by_text_os = refl;
+  by_text_ot = refl;
+  by_text_ost = refl;
+  by_text_rt = refl;
+  by_text_is = refl;
+  by_text_ix = refl;
+  by_text_e = refl;
+  by_text_as = refl;
+  by_text_ss = refl;
+  by_text_ort = refl;
+  by_text_none = refl;
+  by_text_lower = refl;
+  by_text_is_off = refl;
+  by_text_like_code = refl;
+  by_code_like_text = refl;
 }

@@ -10,7 +10,7 @@ use lib.Dec.{eqb, leb}
 use lib.IntN.{ℤ}
 use borrow.Author.Tests.{leb-true}
 use Rattle.lists.specs.Numbers.{bytes}
-use Rattle.lists.proofs.Choices.{and_right, passed}
+use Rattle.lists.proofs.Choices.{cond_case, and_right, passed}
 use Rattle.model.specs.declared.Module.{Module}
 use Rattle.model.specs.State.{fresh_module}
 use Rattle.model.specs.Samples.{counter_bits, inputs_sampled}
@@ -18,18 +18,20 @@ use Rattle.model.specs.Frames.{spinel_to, signature_of, instruction_of, spinel_d
 use Rattle.model.specs.Refusals.{Done, Out, ack_of, silent, spinel_broadcast_wrong, buffer_short}
 use Rattle.model.specs.Wire.{Wire, frame_refusal, used_up, request_of, frame_answered, frame_call}
 use Rattle.model.specs.Spinel.{spinel_request, spinel_wire}
+use Rattle.model.specs.Text.{is_text, characters, typed, text_request, text_wire}
 use Rattle.model.specs.Modbus.{modbus_wire}
 use Rattle.model.specs.Temperature.{reading_of, taken}
 use Rattle.model.specs.declared.Reading.{Reading}
 use Rattle.model.specs.declared.Reading.TheVariants.{Valid, Fault}
 use Rattle.model.specs.Call.{Act, Call, sample, temperature, spinel, modbus}
 use Rattle.model.specs.Calls.{sampled, sample_call, temperature_call, spinel_call, modbus_call, acted, step, run}
-use Rattle.model.specs.Tally.{Tally, Event, tallied, spinel_tallied, modbus_tallied, if_accepted, feed, tally, fresh_tally, uncollected, clears, stayed}
+use Rattle.model.specs.Tally.{Tally, Event, as_text, tallied, spinel_tallied, text_tallied, modbus_tallied, if_accepted, feed, tally, fresh_tally, uncollected, clears, stayed}
 use Rattle.model.specs.Cycles.{events, Conserved, CyclesConserved, counting_of, Agree, CyclesConservedFrom}
 use Rattle.model.proofs.Judged.{frame_either}
 use Rattle.model.proofs.Invariant.{Inv, exact_at, agreed, fresh_agrees, sample_keeps}
 use Rattle.model.proofs.Accepted.{Good, if_refused}
 use Rattle.model.proofs.SpinelKeeps.{spinel_good}
+use Rattle.model.proofs.TextKeeps.{text_read, text_good}
 use Rattle.model.proofs.ModbusKeeps.{modbus_good}
 
 -- the answer o to a call keeps the invariant
@@ -82,12 +84,22 @@ module _ (i : ℕ) (small : i < 16) (m : Module) (t : Tally) (v : Inv i (countin
     unfolding spinel_reply bytes
     tail_of e bs = rw e
 
-    spinel_keeps : (room : ℕ) → Kept i t (spinel f) (spinel_call room f m)
-    unfolding spinel_request tallied frame_answered
-    spinel_keeps =
-        frame_keeps spinel_wire f (spinel f) (λ n d. spinel_tallied (instruction_of f) (spinel_data f) (replied n d) t) (λ _. refl) v λ h.
+    -- a binary frame, and one of text; the tally tells them apart by the same two bytes
+    binary_keeps : is_text f ≡ false → (room : ℕ) → Kept i t (spinel f) (frame_call spinel_wire room f m)
+    unfolding spinel_request tallied frame_answered is_text as_text
+    binary_keeps b =
+        frame_keeps spinel_wire f (spinel f) (λ n d. spinel_tallied (instruction_of f) (spinel_data f) (replied n d) t) (λ _. rw b) v λ h.
         spinel_good i small (used_up spinel_wire m) t v (spinel_data f) (replied 0) (spinel_request m.spinel.permitted f) (instruction_of f) closing refl refl
         (λ e. tail_of (to_one (spinel_to f) (instruction_of f) (no_broadcast spinel_wire m.settings.sum_tested m.spinel.address f h) e))
+
+    text_keeps : is_text f ≡ true → (room : ℕ) → Kept i t (spinel f) (frame_call text_wire room f m)
+    unfolding text_request tallied is_text as_text
+    text_keeps b =
+        frame_keeps text_wire f (spinel f) (λ n d. text_tallied f t) (λ _. rw b) v λ h.
+        text_good i small (used_up text_wire m) t v f (typed (characters f)).code (text_request m.spinel.permitted f) (text_read false m.spinel.address f h)
+
+    spinel_keeps : (room : ℕ) → Kept i t (spinel f) (spinel_call room f m)
+    spinel_keeps room = cond_case (λ (w : Wire). Kept i t (spinel f) (frame_call w room f m)) (is_text f) text_wire spinel_wire (λ b. text_keeps b room) (λ b. binary_keeps b room)
 
     modbus_keeps : (room : ℕ) → Kept i t (modbus f) (modbus_call room f m)
     unfolding tallied

@@ -13,6 +13,7 @@ pub mod ThermostatTable
 pub mod RegisterTable
 pub mod CoilTable
 pub mod GroupTable
+pub mod TextTable
 pub mod UnreachedTable
 pub mod TallyTable
 pub mod ClaimTable
@@ -31,6 +32,8 @@ pub mod Invariant
 pub mod Deductions
 pub mod Effects
 pub mod Accepted
+pub mod Spellings
+pub mod TextKeeps
 pub mod SpinelKeeps
 pub mod ModbusKeeps
 pub mod Conservation

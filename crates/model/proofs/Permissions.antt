@@ -4,15 +4,18 @@ use native.Mathlib.Omega.{arith}
 use mathlib.Core.Path.{◌≡◌, refl, sym}
 use mathlib.Core.Bool.{Bool, true, false, ◌&&◌, ◌||◌, and-false, true≢false}
 use mathlib.Core.List.{List}
+use Rattle.std.specs.Prelude.{Option, Some, None}
 use lib.ListN.{length}
 use lib.Dec.{eqb}
 use borrow.Author.Tests.{ne_eqb, not-false}
 use Rattle.lists.specs.Tests.{within}
 use Rattle.lists.proofs.Choices.{cond_case, cond_eq, or_right, within_high}
 use Rattle.model.specs.declared.Module.{Module}
+use Rattle.model.specs.declared.TextCode.{TextCode}
+use Rattle.model.specs.declared.TextCode.TheVariants.{ReadInput, ReadOutput, SetOutput, PulseOutput, ReadTemperature, SetNotice, ReadNotice, GivePermission, SetAddress, SetSpeed}
 use Rattle.model.specs.Frames.{function_of, modbus_body}
 use Rattle.model.specs.Refusals.{Request, Out}
-use Rattle.model.specs.Wire.{used_up, frame_answered}
+use Rattle.model.specs.Wire.{Wire, used_up, frame_answered, frame_call}
 use Rattle.model.specs.Counters.{list_read, read_sampling, reset, set_port, read_port, reset_module, give_permission}
 use Rattle.model.specs.Outputs.{read_states}
 use Rattle.model.specs.Notice.{read_notice}
@@ -20,10 +23,11 @@ use Rattle.model.specs.Temperature.{read_temperature, read_thermostats}
 use Rattle.model.specs.Registers.{permission_group, outside, read_words, read_bits, write_permission, write_port}
 use Rattle.model.specs.SumTest.{read_sum_test}
 use Rattle.model.specs.Spinel.{SpinelRequest, spinel_asked, spinel_request, spinel_wire}
+use Rattle.model.specs.Text.{is_text, characters, typed, read_state, read_thermometer, tell_notice, configure, TextRequest, asked_by, asked_if, text_request, text_wire}
 use Rattle.model.specs.Modbus.{start_of, registers_written, coil_written, register_written, coils_written, several_written, modbus_asked, modbus_wire}
 use Rattle.model.specs.Call.{Act, sample, temperature, spinel, modbus}
 use Rattle.model.specs.Calls.{spinel_call, modbus_call, acted, step}
-use Rattle.model.specs.Demand1.{gives_permission, resets_module, port_permitted, PermissionsHold}
+use Rattle.model.specs.Demand1.{gives_by, resets_by, gives_permission, resets_module, port_permitted, PermissionsHold}
 use Rattle.model.proofs.Judged.{order, frame_either}
 
 -- a refusal is no acceptance
@@ -43,6 +47,10 @@ not_first (suc r) e = ne_eqb (suc r) 0 (λ z. omega arith)
 record Fair (own gives resets : Bool) (n : Module) : Type 0 where
   used : own ≡ gives
   ended : resets ≡ true → (n.spinel.permitted ≡ false) × (n.modbus.permitted ≡ false)
+
+-- nothing given and nothing reset
+idle : {n : Module} → Fair false false false n
+idle = record { used = refl; ended = λ h. absurd (true≢false (sym h)) }
 
 module _ (m : Module) where
   -- Spinel
@@ -84,6 +92,26 @@ module _ (m : Module) where
       (cond_eq (FairBySpinel i) i 0xF0 _ _ (λ e. rw e (plainly 0xF0 _ refl refl refl refl))
       (cond_eq (FairBySpinel i) i 0xFE _ _ (λ e. rw e (plainly 0xFE _ refl refl refl refl))
       (record { fair = λ h. absurd (true≢false h) })))))))))))))))))))))))))))
+
+  -- text, by its code
+  code_fair : (c : TextCode) (q : TextRequest) → let n = (asked_by c q (used_up text_wire m)).after in Fair n.spinel.permitted (gives_by (Some c)) (resets_by (Some c)) n
+  unfolding asked_by read_state read_thermometer tell_notice give_permission configure reset gives_by resets_by
+  code_fair ReadInput q = idle
+  code_fair ReadOutput q = idle
+  code_fair SetOutput q = idle
+  code_fair PulseOutput q = idle
+  code_fair ReadTemperature q = idle
+  code_fair SetNotice q = idle
+  code_fair ReadNotice q = idle
+  code_fair GivePermission q = record { used = refl; ended = λ h. absurd (true≢false (sym h)) }
+  code_fair SetAddress q = record { used = refl; ended = λ _. (refl, refl) }
+  code_fair SetSpeed q = record { used = refl; ended = λ _. (refl, refl) }
+
+  text_fair : (c : Option TextCode) (q : TextRequest) → (asked_if c q (used_up text_wire m)).holds 7 ≡ false
+      → let n = (asked_if c q (used_up text_wire m)).after in Fair n.spinel.permitted (gives_by c) (resets_by c) n
+  unfolding asked_if
+  text_fair (Some c) q h = code_fair c q
+  text_fair None q h = absurd (true≢false h)
 
   -- registers written from r on, by 06 or not
   record FairWrite (single : Bool) (r : ℕ) (q : Request Module) : Type 0 where
@@ -140,11 +168,20 @@ module _ (m : Module) where
   record FairAnswer (a : Act) (o : Out) : Type 0 where
     fair : o.refusal ≡ 0 → Fair (port_permitted a o.after) (gives_permission a) (resets_module a) o.after
 
-  spinel_answer : (f : List ℕ) (room : ℕ) → FairAnswer (spinel f) (spinel_call room f m)
+  binary_answer : (f : List ℕ) → is_text f ≡ false → (room : ℕ) → FairAnswer (spinel f) (frame_call spinel_wire room f m)
   unfolding order spinel_request port_permitted gives_permission resets_module frame_answered
-  spinel_answer f =
+  binary_answer f b =
       frame_either (FairAnswer (spinel f)) spinel_wire f m (λ _. record { fair = λ e. absurd (omega arith) }) (λ n l. record { fair = λ e. late n l e })
-      (λ _ p. record { fair = λ _. (spinel_fair (spinel_request m.spinel.permitted f) _ refl).fair (p.at 7 refl) })
+      (λ _ p. record { fair = λ _. rw b ((spinel_fair (spinel_request m.spinel.permitted f) _ refl).fair (p.at 7 refl)) })
+
+  text_answer : (f : List ℕ) → is_text f ≡ true → (room : ℕ) → FairAnswer (spinel f) (frame_call text_wire room f m)
+  unfolding order text_request port_permitted gives_permission resets_module frame_answered
+  text_answer f b =
+      frame_either (FairAnswer (spinel f)) text_wire f m (λ _. record { fair = λ e. absurd (omega arith) }) (λ n l. record { fair = λ e. late n l e })
+      (λ _ p. record { fair = λ _. rw b (text_fair (typed (characters f)).code (text_request m.spinel.permitted f) (p.at 7 refl)) })
+
+  spinel_answer : (f : List ℕ) (room : ℕ) → FairAnswer (spinel f) (spinel_call room f m)
+  spinel_answer f room = cond_case (λ (w : Wire). FairAnswer (spinel f) (frame_call w room f m)) (is_text f) text_wire spinel_wire (λ b. text_answer f b room) (λ b. binary_answer f b room)
 
   modbus_answer : (f : List ℕ) (room : ℕ) → FairAnswer (modbus f) (modbus_call room f m)
   unfolding order port_permitted gives_permission resets_module frame_answered

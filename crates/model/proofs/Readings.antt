@@ -13,11 +13,11 @@ use Rattle.model.specs.Calls.{run}
 use Rattle.model.specs.Refusals.{telling, refuse, refusal_of, ack_of, exception_of}
 use Rattle.model.specs.Spinel.{spinel_wire}
 use Rattle.model.specs.Demand1.{Check, greatest, request_checks, frame_checks, is_broadcast}
-use Rattle.model.specs.Tally.{Tally, Event, fresh_tally, amounts, taken_from, uncollected, clears, stayed}
+use Rattle.model.specs.Tally.{Tally, Event, feed, fresh_tally, amounts, taken_from, uncollected, clears, stayed}
 use Rattle.model.specs.Cycles.{events, tally_after, final_tally, counter_of, counter_now, CyclesConserved, Counting, counting_of, Alike, Agree, CyclesConservedFrom}
 use Rattle.model.specs.Alone.{Sample, sample_calls, accepted_bits, line_of, mode_of, OneInputAlone}
 use Rattle.model.proofs.Computing.{computing}
-use Rattle.model.proofs.Exchanges.{sample_of, temperature_of, asked, asked_at, sent_to, requested, written}
+use Rattle.model.proofs.Exchanges.{sample_of, temperature_of, spinel_frame, asked, asked_at, sent_to, requested, written}
 
 -- The claim ------------------------------------------------------------------------------
 
@@ -128,6 +128,10 @@ pub record Rows : Type 0 where
   -- what goes to all modules, the greatest number, and what tells it
   pub to_all_spinel : is_broadcast (asked_at 0xFF 0x20 (0x81 ∷ [])).act ≡ true
   pub to_universal : is_broadcast (asked_at 0xFE 0x20 (0x81 ∷ [])).act ≡ false
+  pub to_all_text : is_broadcast (spinel_frame (0x2A ∷ 0x42 ∷ 0x25 ∷ 0x4F ∷ 0x53 ∷ 0x31 ∷ 0x48 ∷ 0x0D ∷ [])).act ≡ true
+  pub text_to_universal : is_broadcast (spinel_frame (0x2A ∷ 0x42 ∷ 0x24 ∷ 0x4F ∷ 0x53 ∷ 0x31 ∷ 0x48 ∷ 0x0D ∷ [])).act ≡ false
+  pub text_with_ff : is_broadcast (spinel_frame (0x2A ∷ 0x42 ∷ 0x31 ∷ 0x49 ∷ 0xFF ∷ 0x31 ∷ 0x0D ∷ [])).act ≡ false
+  pub binary_to_25 : is_broadcast (asked_at 0x25 0x20 (0x81 ∷ [])).act ≡ false
   pub to_all_modbus : is_broadcast (sent_to 0x00 0x05 (0x00 ∷ 0x00 ∷ 0xFF ∷ 0x00 ∷ [])).act ≡ true
   pub not_to_ff : is_broadcast (sent_to 0xFF 0x05 (0x00 ∷ 0x00 ∷ 0xFF ∷ 0x00 ∷ [])).act ≡ false
   pub thirteen : greatest ≡ 13
@@ -148,6 +152,9 @@ pub record Rows : Type 0 where
   pub value_second : taken_from 2 (0x81 ∷ 0x82 ∷ []) 0 two_values ≡ 0xA0B0_C0D0
   pub value_of_all : taken_from 2 (0x80 ∷ []) 0 two_values ≡ 0xA0B0_C0D0
   pub value_kept : taken_from 2 (0x81 ∷ 0x02 ∷ []) 0 two_values ≡ 0
+  -- in a text frame no byte is an instruction, whatever it holds: here 62H, then 5, which would set the sampling number
+  pub text_sets_no_number :
+      (feed fresh_tally (accepted (spinel_frame (0x2A ∷ 0x42 ∷ 0x31 ∷ 0x4F ∷ 0x53 ∷ 0x31 ∷ 0x62 ∷ 0x05 ∷ 0x01 ∷ 0x0D ∷ [])))).sampling ≡ 20
   -- uncollected is edges less collected
   pub uncollected5 : uncollected (holding 8 3) 1 ≡ 5
   -- what clears input 1, and what does not
@@ -158,6 +165,9 @@ pub record Rows : Type 0 where
   pub by_e_3 : clears 1 (asked 0xE3 []).act ≡ true
   pub by_e_0 : clears 1 (asked 0xE0 (0x31 ∷ 0x06 ∷ [])).act ≡ true
   pub not_by_e_4 : clears 1 (asked 0xE4 []).act ≡ false
+  pub by_a_s : clears 1 (spinel_frame (0x2A ∷ 0x42 ∷ 0x31 ∷ 0x41 ∷ 0x53 ∷ 0x35 ∷ 0x0D ∷ [])).act ≡ true
+  pub by_s_s : clears 16 (spinel_frame (0x2A ∷ 0x42 ∷ 0x31 ∷ 0x53 ∷ 0x53 ∷ 0x37 ∷ 0x0D ∷ [])).act ≡ true
+  pub not_by_o_s : clears 1 (spinel_frame (0x2A ∷ 0x42 ∷ 0x31 ∷ 0x4F ∷ 0x53 ∷ 0x35 ∷ 0x48 ∷ 0x0D ∷ [])).act ≡ false
   pub by100 : clears 1 (requested 0x06 100 0).act ≡ true
   pub not_by_101 : clears 1 (requested 0x06 101 0).act ≡ false
   pub by115 : clears 16 (written 114 (0 ∷ 0 ∷ [])).act ≡ true
@@ -191,6 +201,10 @@ unfolding computing
 rows = record {
   to_all_spinel = refl;
   to_universal = refl;
+  to_all_text = refl;
+  text_to_universal = refl;
+  text_with_ff = refl;
+  binary_to_25 = refl;
   to_all_modbus = refl;
   not_to_ff = refl;
   thirteen = refl;
@@ -208,6 +222,7 @@ rows = record {
   value_second = refl;
   value_of_all = refl;
   value_kept = refl;
+  text_sets_no_number = refl;
   uncollected5 = refl;
   by61 = refl;
   not_by_61_byte = refl;
@@ -216,6 +231,9 @@ rows = record {
   by_e_3 = refl;
   by_e_0 = refl;
   not_by_e_4 = refl;
+  by_a_s = refl;
+  by_s_s = refl;
+  not_by_o_s = refl;
   by100 = refl;
   not_by_101 = refl;
   by115 = refl;

@@ -11,16 +11,17 @@ use lib.ListN.{length}
 use Rattle.lists.proofs.Choices.{cond_case}
 use Rattle.lists.proofs.DataLaws.{over_beyond, over_length}
 use Rattle.model.specs.declared.Module.{Module}
-use Rattle.model.specs.Frames.{signature_of, spinel_reply, function_of, exception_reply}
+use Rattle.model.specs.Frames.{spinel_to, signature_of, spinel_broadcast, spinel_reply, function_of, exception_reply}
 use Rattle.model.specs.Refusals.{Request, Done, refused, first_holding, decided, judged, Out, silent, buffer_short, if_passes, ack_of, exception_of}
 use Rattle.model.specs.Wire.{Wire, used_up, request_of, frame_refusal, frame_answered, frame_acted, frame_handled, frame_call}
 use Rattle.model.specs.Spinel.{spinel_wire}
+use Rattle.model.specs.Text.{is_text, text_to, text_broadcast, text_reply, last_digit, text_wire}
 use Rattle.model.specs.Modbus.{modbus_wire}
 use Rattle.model.specs.Call.{Act, sample, temperature, spinel, modbus}
 use Rattle.model.specs.Calls.{sampled, sample_call, temperature_call, acted, step}
 use Rattle.model.specs.Demand1.{Check, check, greatest, claimed_order, request_checks, frame_checks, wire_checks, checks, RefusedBy, here, later, NoneHolds, none, also, permission_ended, is_broadcast, refusal_reply, RefusalsHold}
 use Rattle.model.proofs.Judged.{judged_either}
-use Rattle.model.proofs.Short.{spinel_short, spinel_fits, modbus_short, modbus_fits, notice_fits}
+use Rattle.model.proofs.Short.{spinel_short, spinel_fits, text_short, text_fits, modbus_short, modbus_fits, notice_fits}
 
 -- The first condition that holds ---------------------------------------------------------
 
@@ -183,10 +184,28 @@ spinel_replies f m =
     let fits = spinel_fits m.spinel.address (signature_of f) (judged (used_up spinel_wire m) (request_of spinel_wire f m)) (spinel_short _ _ _) in
     record { short = omega arith; tells = λ _ _. refl }
 
+text_replies : (f : List ℕ) (m : Module) → Replies text_wire f m (λ n. text_reply m.spinel.address (last_digit (ack_of n) ∷ []))
+text_replies f m =
+    let fits = text_fits m.spinel.address (judged (used_up text_wire m) (request_of text_wire f m)) (text_short _ _ _) in
+    record { short = omega arith; tells = λ n l. rw (ne_eqb n 0 (λ z. omega arith)) }
+
 modbus_replies : (f : List ℕ) (m : Module) → Replies modbus_wire f m (λ n. exception_reply m.modbus.address (function_of f) (exception_of n))
 modbus_replies f m =
     let fits = modbus_fits m.modbus.address (function_of f) (judged (used_up modbus_wire m) (request_of modbus_wire f m)) (modbus_short _ _ _ _ _) in
     record { short = fits; tells = λ n l. rw (ne_eqb n 0 (λ z. omega arith)) }
+
+-- a frame on the Spinel port, where t tells whether it is text
+abbrev spinel_told : Bool → List ℕ → Module → ℕ → List ℕ
+spinel_told t f m n =
+    cond t
+    (cond (eqb (text_to f) text_broadcast) [] (text_reply m.spinel.address (last_digit (ack_of n) ∷ [])))
+    (cond (eqb (spinel_to f) spinel_broadcast) [] (spinel_reply m.spinel.address (signature_of f) (ack_of n) []))
+
+spinel_answers : (t : Bool) (f : List ℕ) (m : Module) (room : ℕ)
+    → Answers m (used_up spinel_wire m) (cond t (eqb (text_to f) text_broadcast) (eqb (spinel_to f) spinel_broadcast)) (spinel_told t f m)
+    (cond t (wire_checks text_wire false m room f) (wire_checks spinel_wire m.settings.sum_tested m room f)) (frame_call (cond t text_wire spinel_wire) room f m)
+spinel_answers true f m room = frame_answers text_wire f m _ (text_replies f m) room
+spinel_answers false f m room = frame_answers spinel_wire f m _ (spinel_replies f m) room
 
 -- a call without conditions
 plain : (m : Module) (refusing : ℕ → List ℕ) (o : Out) → o.refusal ≡ 0 → length o.reply ≤ 256 → Answers m m false refusing [] o
@@ -197,14 +216,14 @@ call_answers : (m : Module) (room : ℕ) (a : Act) → Answers m (permission_end
 unfolding permission_ended is_broadcast refusal_reply checks sample_call sampled temperature_call
 call_answers m room (sample bits) = call_check m m false _ 1 (buffer_short room) (omega arith) (plain m _ (sampled bits m) refl (le_trans (notice_fits _ _ _ _) (omega arith)))
 call_answers m room (temperature good tenths) = plain m _ _ refl (omega arith)
-call_answers m room (spinel f) = frame_answers spinel_wire f m _ (spinel_replies f m) room
+call_answers m room (spinel f) = spinel_answers (is_text f) f m room
 call_answers m room (modbus f) = frame_answers modbus_wire f m _ (modbus_replies f m) room
 
 checks_numbered : (m : Module) (room : ℕ) (a : Act) → Numbered 1 greatest (checks m room a)
 unfolding checks frame_checks request_checks
 checks_numbered m room (sample bits) = omega arith
 checks_numbered m room (temperature good tenths) = omega arith
-checks_numbered m room (spinel f) = omega arith
+checks_numbered m room (spinel f) = cond_case (Numbered 1 greatest) (is_text f) _ _ (λ _. omega arith) (λ _. omega arith)
 checks_numbered m room (modbus f) = omega arith
 
 pub refusals_hold : RefusalsHold

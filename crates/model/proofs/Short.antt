@@ -1,13 +1,15 @@
--- How long a reply's data is: at most 128 bytes over Spinel, at most 252 in a Modbus body. Assumes nothing.
+-- How long a reply's data is: at most 128 bytes over Spinel, at most 8 characters of text, at most 252 in a Modbus body. Assumes nothing.
 use Prim.Native.Nat.{ℕ, zero, suc, ◌+◌, ◌-◌, ◌*◌, ◌/◌, ◌%◌, ◌≤◌}
 use native.Mathlib.Omega.{arith}
 use native.Mathlib.Nat.{mul-suc}
 use mathlib.Core.Path.{◌≡◌, refl}
+use Rattle.std.specs.Prelude.{Option, Some, None}
 use mathlib.Core.Bool.{Bool, true, false, cond, not, ◌&&◌, ◌||◌}
 use mathlib.Core.List.{List, [], ◌∷◌, map, flat_map}
 use lib.Dec.{eqb}
 use lib.ListN.{length, get_or, take, drop, length-append, length-map, length-take}
 use borrow.Author.Tests.{eqb-true, leb-true, not-false}
+use Rattle.lists.specs.Chunks.{chunks_of}
 use Rattle.lists.specs.Numbers.{bytes}
 use Rattle.lists.proofs.Choices.{cond_case, cond_eq, and_right, or_right, within_high}
 use Rattle.lists.proofs.ChunkLaws.{length-chunks_of}
@@ -17,6 +19,8 @@ use Rattle.model.specs.declared.Group.{Group}
 use Rattle.model.specs.declared.Reading.{Reading}
 use Rattle.model.specs.declared.Reading.TheVariants.{Valid, Fault}
 use Rattle.model.specs.declared.Thermostat.{Thermostat}
+use Rattle.model.specs.declared.TextCode.{TextCode}
+use Rattle.model.specs.declared.TextCode.TheVariants.{ReadInput, ReadOutput, SetOutput, PulseOutput, ReadTemperature, SetNotice, ReadNotice, GivePermission, SetAddress, SetSpeed}
 use Rattle.model.specs.declared.Notice.{Notice}
 use Rattle.model.specs.declared.Inputs.{Inputs}
 use Rattle.model.specs.Samples.{input_states}
@@ -29,6 +33,7 @@ use Rattle.model.specs.Outputs.{set_outputs, set_pulses, pulse_outputs, act_on, 
 use Rattle.model.specs.Registers.{port_group, counter_group, mode_group, output_group, thermostat_group, reading_group, in_group, packed, read_bits, read_words, read_thermostat, port_words, counter_word, output_word, thermostat_words, write_coils}
 use Rattle.model.specs.Modbus.{start_of, second_of, quantity_wrong, no_group, registers_read, registers_written, coil_written, register_written, coils_written, several_written, modbus_asked}
 use Rattle.model.specs.Spinel.{SpinelRequest, spinel_asked}
+use Rattle.model.specs.Text.{last_digit, text_reply, read_state, set_one, pulse_one, temperature_told, read_thermometer, switch_notice, tell_notice, configure, TextRequest, asked_by, asked_if, text_asked, text_notice}
 use Rattle.model.specs.Notice.{set_notice, read_notice, noticed, notice_frame, notice_written}
 use Rattle.model.proofs.Judged.{judged_either, order}
 
@@ -153,10 +158,58 @@ length-spinel_reply own signature ack d = simp length-append (omega arith)
 pub spinel_fits : (own signature : ℕ) (o : Done Module) → length o.reply ≤ 128 → length (spinel_reply own signature (ack_of o.refusal) o.reply) ≤ 137
 spinel_fits own signature o h = omega (arith, length-spinel_reply own signature (ack_of o.refusal) o.reply)
 
--- what a sample writes
-pub notice_fits : (own : ℕ) (n : Notice) (edged : List Bool) (x : Inputs) → length (notice_written own n edged x) ≤ 11
+-- Text -----------------------------------------------------------------------------------
+
+told_short : (r : Reading) → length (temperature_told r) ≤ 8
+unfolding temperature_told
+told_short (Valid t x) = omega arith
+told_short Fault = omega arith
+
+code_short : (c : TextCode) (q : TextRequest) (m : Module) → length (asked_by c q m).reply ≤ 8
+unfolding asked_by read_state set_one pulse_one pulse_outputs act_on read_thermometer switch_notice tell_notice give_permission configure
+code_short ReadInput q m = omega arith
+code_short ReadOutput q m = omega arith
+code_short SetOutput q m = omega arith
+code_short PulseOutput q m = omega arith
+code_short ReadTemperature q m = told_short m.reading
+code_short SetNotice q m = omega arith
+code_short ReadNotice q m = omega arith
+code_short GivePermission q m = omega arith
+code_short SetAddress q m = omega arith
+code_short SetSpeed q m = omega arith
+
+pub text_asked_short : (c : Option TextCode) (q : TextRequest) (m : Module) → length (asked_if c q m).reply ≤ 8
+unfolding asked_if
+text_asked_short (Some c) q m = code_short c q m
+text_asked_short None q m = omega arith
+
+pub text_short : (q : TextRequest) (p m : Module) → length (judged p (text_asked q m)).reply ≤ 8
+text_short q p m = judged_short 8 p (text_asked q m) (record { bound = λ _. text_asked_short q.typed.code q m })
+
+pub length-text_reply : (own : ℕ) (told : List ℕ) → length (text_reply own told) ≡ length told + 4
+unfolding text_reply
+length-text_reply own told = simp length-append (omega arith)
+
+-- the whole reply, 4 bytes more
+pub text_fits : (own : ℕ) (o : Done Module) → length o.reply ≤ 8 → length (text_reply own (cond (eqb o.refusal 0) o.reply (last_digit (ack_of o.refusal) ∷ []))) ≤ 12
+text_fits own o h =
+    cond_case (λ (l : List ℕ). length (text_reply own l) ≤ 12) (eqb o.refusal 0) o.reply (last_digit (ack_of o.refusal) ∷ [])
+    (λ _. omega (arith, length-text_reply own o.reply))
+    (λ _. omega (arith, length-text_reply own (last_digit (ack_of o.refusal) ∷ [])))
+
+-- What a sample writes ---------------------------------------------------------------------
+
+pub length-text_notice : (own : ℕ) (states : List Bool) → length (text_notice own states) ≡ 25
+unfolding text_notice text_reply flat_map chunks_of
+length-text_notice own states = refl
+
+pub notice_fits : (own : ℕ) (n : Notice) (edged : List Bool) (x : Inputs) → length (notice_written own n edged x) ≤ 25
 unfolding notice_written notice_frame bytes
-notice_fits own n edged x = cond_case (λ (l : List ℕ). length l ≤ 11) (noticed n edged) _ _ (λ _. omega (arith, length-spinel_reply own n.signature 0x0D (states_shown (input_states x)))) (λ _. omega arith)
+notice_fits own n edged x =
+    cond_case (λ (l : List ℕ). length l ≤ 25) (noticed n edged) _ _
+    (λ _. cond_case (λ (l : List ℕ). length l ≤ 25) (eqb n.format 0x42) _ _ (λ _. omega (arith, length-text_notice own (input_states x)))
+    (λ _. omega (arith, length-spinel_reply own n.signature 0x0D (states_shown (input_states x)))))
+    (λ _. omega arith)
 
 -- Modbus ---------------------------------------------------------------------------------
 

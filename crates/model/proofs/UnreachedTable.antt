@@ -10,8 +10,8 @@ use Rattle.model.specs.declared.Reading.TheVariants.{Valid}
 use lib.Ieee.{of_bits, binary32}
 use Rattle.model.proofs.Computing.{unchecked}
 use Rattle.model.proofs.Checksums.{eqb_same, passed}
-use Rattle.model.proofs.Exchanges.{Plays, ◌⇒◌, sample_of, temperature_of, asked, asked_at, sent_to, requested, silently, answers, answers_from}
-use Rattle.model.proofs.Exchanges.{refuses, refuses_from, announces, gives_from, shows}
+use Rattle.model.proofs.Exchanges.{Plays, ◌⇒◌, sample_of, temperature_of, spinel_frame, asked, asked_at, sent_to, requested, reply, silently}
+use Rattle.model.proofs.Exchanges.{answers, answers_from, refuses, refuses_from, announces, gives_from, shows}
 
 pub record UnreachedTable : Type 0 where
   -- sampling number 0: a differing sample flips
@@ -203,8 +203,18 @@ pub record UnreachedTable : Type 0 where
   pub format_other : Plays (with_notice fresh_module (notice 0x01 0xFFFF 0x05)) (
       (asked 0x11 [] ⇒ answers (0x01 ∷ 0xFF ∷ 0xFF ∷ [])) ∷
       (asked 0x10 (0x01 ∷ []) ⇒ refuses 11 0x03) ∷
+      (spinel_frame (0x2A ∷ 0x42 ∷ 0x31 ∷ 0x49 ∷ 0x58 ∷ 0x0D ∷ []) ⇒ reply 0 (0x2A ∷ 0x42 ∷ 0x31 ∷ 0x30 ∷ 0x01 ∷ 0x0D ∷ [])) ∷
       (asked 0x62 (0x01 ∷ []) ⇒ answers []) ∷
       (sample_of 1 ⇒ announces 0x31 0x05 (0x00 ∷ 0x01 ∷ [])) ∷
+      [])
+  -- a text notice with a mask goes by it, and shows all inputs
+  pub text_mask : Plays (with_notice fresh_module (notice 0x42 0x0002 0x05)) (
+      (asked 0x62 (0x01 ∷ []) ⇒ answers []) ∷
+      (sample_of 1 ⇒ silently 0) ∷
+      (sample_of 3 ⇒ reply 0 (0x2A ∷ 0x42 ∷ 0x31 ∷ 0x44 ∷ 0x20 ∷ 0x48 ∷ 0x48 ∷ 0x4C ∷ 0x4C ∷ 0x4C ∷ 0x20 ∷ 0x4C ∷ 0x4C ∷
+      0x4C ∷ 0x4C ∷ 0x4C ∷ 0x20 ∷ 0x4C ∷ 0x4C ∷ 0x4C ∷ 0x4C ∷ 0x4C ∷ 0x20 ∷ 0x4C ∷ 0x0D ∷ [])) ∷
+      (sample_of 2 ⇒ silently 0) ∷
+      (asked 0x11 [] ⇒ answers (0x42 ∷ 0x00 ∷ 0x02 ∷ [])) ∷
       [])
   -- an own address FE is the universal one: no E4H, E0H
   pub own_universal : Plays (with_spinel fresh_module (port 0xFE 6 true)) (
@@ -254,6 +264,7 @@ unreached_table = record {
   modes_lacking = passed _ _ _ refl refl;
   counters_lacking = passed _ _ _ refl refl;
   format_other = passed _ _ _ refl refl;
+  text_mask = passed _ _ _ refl refl;
   own_universal = passed _ _ _ refl refl;
   own_broadcast = passed _ _ _ refl refl;
   own_ff = passed _ _ _ (simp eqb_same) refl;

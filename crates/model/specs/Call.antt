@@ -6,7 +6,7 @@ pub data Act : Type 0 where
   sample : ℕ → Act
   -- the thermometer: whether the value can be trusted, and the value in tenths of a degree
   temperature : Bool → ℤ → Act
-  -- a frame's bytes
+  -- a frame's bytes; on the Spinel port, of either format
   spinel : List ℕ → Act
   modbus : List ℕ → Act
 

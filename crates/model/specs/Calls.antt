@@ -9,8 +9,9 @@ use Rattle.model.specs.Outputs.{pulsed}
 use Rattle.model.specs.Notice.{notice_written}
 use Rattle.model.specs.Temperature.{reading_of, taken}
 use Rattle.model.specs.Refusals.{Out, silent, buffer_short}
-use Rattle.model.specs.Wire.{frame_call}
+use Rattle.model.specs.Wire.{Wire, frame_call}
 use Rattle.model.specs.Spinel.{spinel_wire}
+use Rattle.model.specs.Text.{is_text, text_wire}
 use Rattle.model.specs.Modbus.{modbus_wire}
 use Rattle.model.specs.Call.{Act, Call, sample, temperature, spinel, modbus}
 
@@ -32,9 +33,12 @@ sample_call room bits m = cond (buffer_short room) (silent 1 m) (sampled bits m)
 unfoldable pub temperature_call : ℕ → Bool → ℤ → Module → Out
 temperature_call room good tenths m = silent 0 (taken (reading_of good tenths) m)
 
--- a frame on either port
+-- a frame on either port; the Spinel port takes two formats, told by a frame's first two bytes (E2)
+abbrev pub spinel_wire_of : List ℕ → Wire
+spinel_wire_of f = cond (is_text f) text_wire spinel_wire
+
 abbrev pub spinel_call : ℕ → List ℕ → Module → Out
-spinel_call room f m = frame_call spinel_wire room f m
+spinel_call room f m = frame_call (spinel_wire_of f) room f m
 
 abbrev pub modbus_call : ℕ → List ℕ → Module → Out
 modbus_call room f m = frame_call modbus_wire room f m

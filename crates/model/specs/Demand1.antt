@@ -1,13 +1,16 @@
 -- Demand 1: the conditions of every call in checking order, and what is claimed of every state and call.
-use Rattle.std.specs.Prelude.{ℕ, ◌+◌, ◌≤◌, Bool, true, false, cond, ◌&&◌, ◌||◌, List, [], ◌∷◌, ◌++◌, map, ◌≡◌, ◌↔◌, eqb, length, get_or}
+use Rattle.std.specs.Prelude.{ℕ, ◌+◌, ◌≤◌, Bool, true, false, cond, ◌&&◌, ◌||◌, List, [], ◌∷◌, ◌++◌, map, ◌≡◌, ◌↔◌, eqb, length, get_or, Option, Some, None}
 use Rattle.lists.specs.Tests.{within}
 use Rattle.lists.specs.Data.{over}
 use Rattle.model.specs.declared.Module.{Module}
+use Rattle.model.specs.declared.TextCode.{TextCode}
+use Rattle.model.specs.declared.TextCode.TheVariants.{ReadInput, ReadOutput, SetOutput, PulseOutput, ReadTemperature, SetNotice, ReadNotice, GivePermission, SetAddress, SetSpeed}
 use Rattle.model.specs.Frames.{spinel_to, signature_of, instruction_of, spinel_broadcast, spinel_reply, modbus_to, function_of, modbus_body, modbus_broadcast, exception_reply}
 use Rattle.model.specs.Refusals.{buffer_short, frame_length_wrong, Request, ack_of, exception_of}
 use Rattle.model.specs.Wire.{Wire, request_of}
 use Rattle.model.specs.Spinel.{spinel_wire}
 use Rattle.model.specs.Modbus.{start_of, modbus_wire}
+use Rattle.model.specs.Text.{is_text, text_to, text_broadcast, text_reply, last_digit, characters, typed, text_wire}
 use Rattle.model.specs.Call.{Act, Call, sample, temperature, spinel, modbus}
 use Rattle.model.specs.Calls.{step}
 
@@ -30,10 +33,10 @@ claimed_order = 7 ∷ 8 ∷ 9 ∷ 10 ∷ 13 ∷ 11 ∷ 12 ∷ []
 unfoldable pub request_checks : {P : Type 0} → Request P → List Check
 request_checks q = map (λ n. check n (q.holds n)) claimed_order
 
--- 2 to 6; 3 is Spinel's alone, and 4 holds of nothing where it is not tested (E5)
+-- 2 to 6; 3 holds of no Modbus frame, and 4 of nothing where it is not tested (E5)
 unfoldable pub frame_checks : Wire → Bool → ℕ → List ℕ → List Check
 frame_checks w tested own f =
-    check 2 (frame_length_wrong w.least f)
+    check 2 (frame_length_wrong w.least w.most f)
     ∷ check 3 (w.shape_wrong f)
     ∷ check 4 (tested && w.check_wrong f)
     ∷ check 5 (w.address_wrong own (w.addressee f))
@@ -44,12 +47,12 @@ frame_checks w tested own f =
 abbrev pub wire_checks : Wire → Bool → Module → ℕ → List ℕ → List Check
 wire_checks w tested m room f = check 1 (buffer_short room) ∷ frame_checks w tested (w.port m).address f ++ request_checks (request_of w f m)
 
--- all conditions of a call in the state m, in checking order; that the Spinel port's setting tells whether SUM is tested, and that a CRC always
--- is, is said here once more
+-- all conditions of a call in the state m, in checking order; that the Spinel port's setting tells whether SUM is tested, that a CRC always
+-- is, and that text has no check (E2), is said here once more
 unfoldable pub checks : Module → ℕ → Act → List Check
 checks m room (sample bits) = check 1 (buffer_short room) ∷ []
 checks m room (temperature good tenths) = []
-checks m room (spinel f) = wire_checks spinel_wire m.settings.sum_tested m room f
+checks m room (spinel f) = cond (is_text f) (wire_checks text_wire false m room f) (wire_checks spinel_wire m.settings.sum_tested m room f)
 checks m room (modbus f) = wire_checks modbus_wire true m room f
 
 -- condition n holds, and no earlier one
@@ -88,14 +91,17 @@ permission_ended (modbus f) m = record {
 unfoldable pub is_broadcast : Act → Bool
 is_broadcast (sample bits) = false
 is_broadcast (temperature good tenths) = false
-is_broadcast (spinel f) = eqb (spinel_to f) spinel_broadcast
+is_broadcast (spinel f) = cond (is_text f) (eqb (text_to f) text_broadcast) (eqb (spinel_to f) spinel_broadcast)
 is_broadcast (modbus f) = eqb (modbus_to f) modbus_broadcast
 
 -- what a call refused by n, 7 to 13, is answered
 unfoldable pub refusal_reply : ℕ → Act → Module → List ℕ
 refusal_reply n (sample bits) m = []
 refusal_reply n (temperature good tenths) m = []
-refusal_reply n (spinel f) m = cond (eqb (spinel_to f) spinel_broadcast) [] (spinel_reply m.spinel.address (signature_of f) (ack_of n) [])
+refusal_reply n (spinel f) m =
+    cond (is_text f)
+    (cond (eqb (text_to f) text_broadcast) [] (text_reply m.spinel.address (last_digit (ack_of n) ∷ [])))
+    (cond (eqb (spinel_to f) spinel_broadcast) [] (spinel_reply m.spinel.address (signature_of f) (ack_of n) []))
 refusal_reply n (modbus f) m = cond (eqb (modbus_to f) modbus_broadcast) [] (exception_reply m.modbus.address (function_of f) (exception_of n))
 
 -- what holds of a call c in a state m, whatever the state, the frame, the sample and the buffer
@@ -125,18 +131,46 @@ RefusalsHold = (m : Module) (c : Call) → Refusals m c
 
 -- The permission of an accepted request --------------------------------------------------
 
--- a request that gives its port the permission: E4H, or 06 of register 0
+-- the same of a text frame, by its code
+
+unfoldable pub gives_by : Option TextCode → Bool
+gives_by (Some GivePermission) = true
+gives_by (Some ReadInput) = false
+gives_by (Some ReadOutput) = false
+gives_by (Some SetOutput) = false
+gives_by (Some PulseOutput) = false
+gives_by (Some ReadTemperature) = false
+gives_by (Some SetNotice) = false
+gives_by (Some ReadNotice) = false
+gives_by (Some SetAddress) = false
+gives_by (Some SetSpeed) = false
+gives_by None = false
+
+unfoldable pub resets_by : Option TextCode → Bool
+resets_by (Some SetAddress) = true
+resets_by (Some SetSpeed) = true
+resets_by (Some ReadInput) = false
+resets_by (Some ReadOutput) = false
+resets_by (Some SetOutput) = false
+resets_by (Some PulseOutput) = false
+resets_by (Some ReadTemperature) = false
+resets_by (Some SetNotice) = false
+resets_by (Some ReadNotice) = false
+resets_by (Some GivePermission) = false
+resets_by None = false
+
+-- a request that gives its port the permission: E4H, E typed (E2), or 06 of register 0
 unfoldable pub gives_permission : Act → Bool
 gives_permission (sample bits) = false
 gives_permission (temperature good tenths) = false
-gives_permission (spinel f) = eqb (instruction_of f) 0xE4
+gives_permission (spinel f) = cond (is_text f) (gives_by (typed (characters f)).code) (eqb (instruction_of f) 0xE4)
 gives_permission (modbus f) = eqb (function_of f) 0x06 && eqb (start_of (modbus_body f)) 0
 
--- one that resets: E0H, E3H, or a write of registers from 1 or 2 on
+-- one that resets: E0H, E3H, AS or SS typed (E2), or a write of registers from 1 or 2 on
 unfoldable pub resets_module : Act → Bool
 resets_module (sample bits) = false
 resets_module (temperature good tenths) = false
-resets_module (spinel f) = eqb (instruction_of f) 0xE0 || eqb (instruction_of f) 0xE3
+resets_module (spinel f) = cond (is_text f) (resets_by (typed (characters f)).code) (eqb (instruction_of f) 0xE0 || eqb (instruction_of f) 0xE3)
 resets_module (modbus f) = (eqb (function_of f) 0x06 || eqb (function_of f) 0x10) && within 1 2 (start_of (modbus_body f))
 
 -- has the port that a request came by the permission? A sample comes by none

@@ -7,6 +7,7 @@ pub mod Wire
 pub mod Counters
 pub mod Temperature
 pub mod Outputs
+pub mod Text
 pub mod Notice
 pub mod SumTest
 pub mod Registers

@@ -114,6 +114,7 @@ modbus_wire = record {
   port = λ m. m.modbus;
   with_port = with_modbus;
   least = 4;
+  most = 256;
   shape_wrong = λ f. false;
   check_wrong = crc_wrong;
   check_tested = λ m. true;

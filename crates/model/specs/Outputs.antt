@@ -61,7 +61,7 @@ act_on act r hs es os =
 unfoldable pub set_outputs : Reading → List Thermostat → List ℕ → List Output → Request (List Output)
 set_outputs r hs d os = refuse 8 (not (items_of 1 d)) (act_on set_output r hs (map set_byte d) os)
 
--- pulses of one time; 0 is refused 11
+-- pulses of one time; 0 is refused 11, and so is one over 255, which only text can name (E2)
 unfoldable pub pulse_outputs : HalfSeconds → Reading → List Thermostat → List Entry → List Output → Request (List Output)
 pulse_outputs time r hs es os =
     refuse 11 (not (within 1 255 time.0)) (act_on (start_pulse time) r hs es os)

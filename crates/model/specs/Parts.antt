@@ -1,14 +1,17 @@
 -- What each call may change: a line for each instruction, function and group of registers. A line gives the state without the parts
 -- that may change; what is left of the state must be as it was before the call.
-use Rattle.std.specs.Prelude.{ℕ, cond, false, List, [], map, ◌≡◌, eqb}
+use Rattle.std.specs.Prelude.{ℕ, cond, false, List, [], map, ◌≡◌, eqb, Option, Some, None}
 use Rattle.lists.specs.Tests.{within}
 use Rattle.model.specs.declared.Line.{Line}
 use Rattle.model.specs.declared.Port.{Port}
 use Rattle.model.specs.declared.Reading.TheVariants.{Fault}
 use Rattle.model.specs.declared.Module.{Module}
-use Rattle.model.specs.State.{line, notice, port, with_modes, with_counters, with_sampling, with_inputs, with_outputs, with_presets, with_thermostats, with_reading, with_notice, with_sum_tested, with_spinel, with_modbus}
+use Rattle.model.specs.declared.TextCode.{TextCode}
+use Rattle.model.specs.declared.TextCode.TheVariants.{ReadInput, ReadOutput, SetOutput, PulseOutput, ReadTemperature, SetNotice, ReadNotice, GivePermission, SetAddress, SetSpeed}
+use Rattle.model.specs.State.{line, notice, turned_off, port, with_modes, with_counters, with_sampling, with_inputs, with_outputs, with_presets, with_thermostats, with_reading, with_notice, with_sum_tested, with_spinel, with_modbus}
 use Rattle.model.specs.Frames.{instruction_of, function_of, modbus_body}
 use Rattle.model.specs.Modbus.{start_of}
+use Rattle.model.specs.Text.{is_text, characters, typed}
 use Rattle.model.specs.Call.{Act, Call, sample, temperature, spinel, modbus}
 use Rattle.model.specs.Calls.{step}
 
@@ -50,6 +53,10 @@ without_readings m = with_reading m m.outputs Fault Fault
 abbrev pub without_notice : Module → Module
 without_notice m = with_notice m (notice 0 0 0)
 
+-- the notice's format and mask
+abbrev pub without_format : Module → Module
+without_format m = with_notice m (turned_off m.settings.notice)
+
 abbrev pub without_sum_test : Module → Module
 without_sum_test m = with_sum_tested m false
 
@@ -63,6 +70,12 @@ unpermitted p = port p.address p.speed false
 
 abbrev pub without_spinel_settings : Module → Module
 without_spinel_settings m = with_spinel m (unset m.spinel)
+
+abbrev pub without_spinel_address : Module → Module
+without_spinel_address m = with_spinel m (port 0 m.spinel.speed m.spinel.permitted)
+
+abbrev pub without_spinel_speed : Module → Module
+without_spinel_speed m = with_spinel m (port m.spinel.address 0 m.spinel.permitted)
 
 abbrev pub without_modbus_settings : Module → Module
 without_modbus_settings m = with_modbus m (unset m.modbus)
@@ -96,6 +109,20 @@ spinel_leaves i m =
     (cond (eqb i 0xEE) (without_sum_test m)
     m))))))))))))
 
+-- by a text frame's code (E2); IS leaves the signature, AS sets the address alone, SS the speed
+unfoldable pub text_leaves : Option TextCode → Module → Module
+text_leaves (Some SetOutput) m = without_outputs m
+text_leaves (Some PulseOutput) m = without_outputs m
+text_leaves (Some SetNotice) m = without_format m
+text_leaves (Some SetAddress) m = without_spinel_address (without_running m)
+text_leaves (Some SetSpeed) m = without_spinel_speed (without_running m)
+text_leaves (Some ReadInput) m = m
+text_leaves (Some ReadOutput) m = m
+text_leaves (Some ReadTemperature) m = m
+text_leaves (Some ReadNotice) m = m
+text_leaves (Some GivePermission) m = m
+text_leaves None m = m
+
 -- a write of registers from r on
 unfoldable pub registers_leave : ℕ → Module → Module
 registers_leave r m =
@@ -119,7 +146,7 @@ modbus_leaves fn r m =
 unfoldable pub leaves : Act → Module → Module
 leaves (sample bits) m = without_lines (without_counters (without_outputs m))
 leaves (temperature good tenths) m = without_readings (without_outputs m)
-leaves (spinel f) m = spinel_leaves (instruction_of f) (without_spinel_permission m)
+leaves (spinel f) m = cond (is_text f) (text_leaves (typed (characters f)).code (without_spinel_permission m)) (spinel_leaves (instruction_of f) (without_spinel_permission m))
 leaves (modbus f) m = modbus_leaves (function_of f) (start_of (modbus_body f)) (without_modbus_permission m)
 
 -- for every state and call

@@ -1,4 +1,4 @@
--- 01, E1 and E5, the refusals in the order of their checks: each condition by its name.
+-- 01 and of 02 E1, E2 and E5, the refusals in the order of their checks: each condition by its name. Those of text alone stand in `Text`.
 use Rattle.std.specs.Prelude.{ℕ, zero, suc, ◌-◌, ◌/◌, ◌%◌, Bool, true, false, cond, not, ◌&&◌, ◌||◌, List, [], ◌∷◌, length, get_or, take, ltb, eqb}
 use Rattle.lists.specs.Tests.{within}
 use Rattle.model.specs.declared.Module.{Module}
@@ -8,9 +8,10 @@ use Rattle.model.specs.Frames.{sum_of, num_of, universal, spinel_broadcast, crc_
 abbrev pub buffer_short : ℕ → Bool
 buffer_short room = ltb room 256
 
--- 2. too short for the fixed parts of its kind (`least`: Spinel 9, Modbus 4), or longer than 256
-abbrev pub frame_length_wrong : ℕ → List ℕ → Bool
-frame_length_wrong least f = not (within least 256 (length f))
+-- 2. too short for the fixed parts of its kind, or longer than its kind goes (`least` and `most`: Spinel 9 and 256, Modbus 4 and 256, text 5
+-- and 32)
+abbrev pub frame_length_wrong : ℕ → ℕ → List ℕ → Bool
+frame_length_wrong least most f = not (within least most (length f))
 
 -- 3. not begun by 2A 61, not ended by 0D, or NUM does not tell the bytes that follow it
 unfoldable pub shape_wrong : List ℕ → Bool
@@ -47,10 +48,11 @@ unfoldable pub modbus_broadcast_wrong : ℕ → ℕ → Bool
 modbus_broadcast_wrong to fn = eqb to modbus_broadcast && not (eqb fn 0x05 || eqb fn 0x0F)
 
 -- 7 to 13, in the order in which they are looked at:
--- 7. a code that 01 gives no meaning
--- 8. more or less data than the code takes, a byte count that does not fit, or a quantity that the function does not take
+-- 7. a code that has no meaning
+-- 8. more or less data than the code takes, in text other characters; a byte count that does not fit, or a quantity that the function does
+-- not take
 -- 9. registers or coils outside the groups that the function serves, across the end of one, or none, too many or wrongly placed for theirs
--- 10. configuring while the port is not permitted to; also E4H and E0H sent to the universal address
+-- 10. configuring while the port is not permitted to; also E4H and E0H sent to the universal address, and E, AS and SS typed to it
 -- 13. a list of deductions, of 61H, with the same number twice
 -- 11. a number, mode, time or other value that its place does not take, or more to deduct than was counted
 -- 12. an output that its thermostat does not let go of now

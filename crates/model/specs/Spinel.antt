@@ -1,4 +1,4 @@
--- A Spinel frame: what its instruction asks for, and its wire.
+-- A binary Spinel frame: what its instruction asks for, and its wire.
 use Rattle.std.specs.Prelude.{ℕ, Bool, cond, List, eqb}
 use Rattle.model.specs.declared.Module.{Module}
 use Rattle.model.specs.State.{with_outputs, with_spinel, with_counters, with_modes, with_sampling, with_presets, with_thermostats, with_notice, with_sum_tested}
@@ -63,6 +63,7 @@ spinel_wire = record {
   port = λ m. m.spinel;
   with_port = with_spinel;
   least = 9;
+  most = 256;
   shape_wrong = shape_wrong;
   check_wrong = sum_wrong;
   check_tested = λ m. m.settings.sum_tested;

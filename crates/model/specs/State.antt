@@ -1,5 +1,5 @@
 -- The state: its fresh value, and each part put in place of the old.
-use Rattle.std.specs.Prelude.{ℕ, Bool, true, false, List, replicate, ℤ, pos}
+use Rattle.std.specs.Prelude.{ℕ, Bool, true, false, not, List, replicate, ℤ, pos, eqb}
 use Rattle.model.specs.declared.Line.{Line}
 use Rattle.model.specs.declared.Inputs.{Inputs}
 use Rattle.model.specs.declared.Output.{Output}
@@ -115,6 +115,14 @@ with_notice m n = with_settings m (record { modes = m.settings.modes; sampling =
 
 abbrev pub with_sum_tested : Module → Bool → Module
 with_sum_tested m b = with_settings m (record { modes = m.settings.modes; sampling = m.settings.sampling; presets = m.settings.presets; thermostats = m.settings.thermostats; notice = m.settings.notice; sum_tested = b })
+
+-- on: any format byte but 0; 10H stores 61H or 0, IS 42H or 0 (E2)
+abbrev pub is_on : Notice → Bool
+is_on n = not (eqb n.format 0)
+
+-- off, with no input in its mask; the signature stays, and nothing shows it
+abbrev pub turned_off : Notice → Notice
+turned_off n = notice 0 0 n.signature
 
 -- permission (01): whether the next frame that 1 to 6 let through may configure the port
 abbrev pub permit : Bool → Port → Port

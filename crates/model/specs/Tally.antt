@@ -61,7 +61,7 @@ sampled_account number b a =
     cond (eqb b a.stable) (with_run 0 a)
     (cond (ltb (a.run + 1) number) (with_run (a.run + 1) a) (flip b a))
 
--- Spinel: byte 6 is the instruction; its data stands between that and the last two bytes -------------------------------
+-- Spinel, binary: byte 6 is the instruction; its data stands between that and the last two bytes -------------------------------
 
 -- two bytes from place k, high byte first
 abbrev pub two_at : List ℕ → ℕ → ℕ
@@ -128,6 +128,15 @@ spinel_mode k c d m = cond (eqb c 0x6A) (mode_given k d m) m
 unfoldable pub spinel_sampling : ℕ → List ℕ → ℕ → ℕ
 spinel_sampling c d n = cond (eqb c 0x62) (get_or d 0 0) n
 
+-- Text on the Spinel port (E2): byte 0 2A, byte 1 42, byte 2 the address, the code from byte 3 on --------------------------
+
+unfoldable pub as_text : List ℕ → Bool
+as_text f = eqb (get_or f 0 0) 0x2A && eqb (get_or f 1 0) 0x42
+
+-- AS or SS
+unfoldable pub text_resets : List ℕ → Bool
+text_resets f = (eqb (get_or f 3 0) 0x41 || eqb (get_or f 3 0) 0x53) && eqb (get_or f 4 0) 0x53
+
 -- Modbus: address 06 register value CRC, or address 10 register quantity count values CRC ------------------------------
 
 abbrev pub quantity : List ℕ → ℕ
@@ -170,6 +179,13 @@ spinel_tallied c d r t = record {
   input = λ k. changed (spinel_resets c) (spinel_clears c d) (spinel_mode k c d (t.input k).mode) (spinel_collects k c d r) (t.input k);
 }
 
+-- nothing of text is counted, collected or set; AS and SS are resets
+abbrev pub text_tallied : List ℕ → Tally → Tally
+text_tallied f t = record {
+  sampling = t.sampling;
+  input = λ k. changed (text_resets f) false (t.input k).mode 0 (t.input k);
+}
+
 abbrev pub modbus_tallied : List ℕ → Tally → Tally
 modbus_tallied f t = record {
   sampling = t.sampling;
@@ -180,7 +196,7 @@ modbus_tallied f t = record {
 unfoldable pub tallied : Act → List ℕ → Tally → Tally
 tallied (sample bits) r t = record { sampling = t.sampling; input = λ k. sampled_account t.sampling (sampled_bit bits k) (t.input k) }
 tallied (temperature good tenths) r t = t
-tallied (spinel f) r t = spinel_tallied (code_of f) (payload f) r t
+tallied (spinel f) r t = cond (as_text f) (text_tallied f t) (spinel_tallied (code_of f) (payload f) r t)
 tallied (modbus f) r t = modbus_tallied f t
 
 -- a refused call leaves the tally as it was
@@ -201,7 +217,7 @@ tally t (e ∷ es) = tally (feed t e) es
 unfoldable pub clears : ℕ → Act → Bool
 clears k (sample bits) = false
 clears k (temperature good tenths) = false
-clears k (spinel f) = spinel_resets (code_of f) || spinel_clears (code_of f) (payload f)
+clears k (spinel f) = cond (as_text f) (text_resets f) (spinel_resets (code_of f) || spinel_clears (code_of f) (payload f))
 clears k (modbus f) = modbus_resets f || modbus_clears k f
 
 -- uncollected (01): the edges not yet collected

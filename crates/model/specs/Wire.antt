@@ -1,4 +1,5 @@
--- One frame on either port: what both do (01, refusals 1 to 6, permission and reply), over what differs between their wires.
+-- One frame of any kind, binary or text on the Spinel port (E2), or Modbus: what all do (01, refusals 1 to 6, permission and reply), over
+-- what differs between their wires.
 use Rattle.std.specs.Prelude.{ℕ, Bool, false, cond, ◌&&◌, List, [], eqb}
 use Rattle.model.specs.declared.Port.{Port}
 use Rattle.model.specs.declared.Module.{Module}
@@ -9,8 +10,9 @@ pub record Wire : Type 0 where
   -- the port that it leads to, and the state with another in its place
   pub port : Module → Port
   pub with_port : Module → Port → Module
-  -- 2: the fewest bytes of a frame
+  -- 2: the fewest bytes of a frame, and the most
   pub least : ℕ
+  pub most : ℕ
   -- 3; 4, and whether it is tested in this state (E5)
   pub shape_wrong : List ℕ → Bool
   pub check_wrong : List ℕ → Bool
@@ -29,7 +31,7 @@ pub record Wire : Type 0 where
 -- 2 to 6 of a frame for the port with address own, where 4 is tested or not: the first that holds, or 0
 unfoldable pub frame_refusal : Wire → Bool → ℕ → List ℕ → ℕ
 frame_refusal w tested own f =
-    cond (frame_length_wrong w.least f) 2
+    cond (frame_length_wrong w.least w.most f) 2
     (cond (w.shape_wrong f) 3
     (cond (tested && w.check_wrong f) 4
     (cond (w.address_wrong own (w.addressee f)) 5

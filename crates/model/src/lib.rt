@@ -87,8 +87,8 @@ pub enum Reading {
     Fault,
 }
 
-// The notice of inputs: its format (61H: on, 0: off; a byte, shown as it is stored), its mask, and the signature of the
-// request that switched it on.
+// The notice of inputs: its format (61H: on; 42H: on, as text; 0: off; a byte, shown as it is stored), its mask, and the
+// signature of the binary request that last switched it on.
 #[derive(Clone, Copy)]
 pub struct Notice {
     pub format: u8,
@@ -133,6 +133,21 @@ pub struct Module {
 pub struct Group {
     pub first: u16,
     pub count: u16,
+}
+
+// What a text frame asks for, each by its code (E2); OT has a second spelling, OST.
+#[derive(Clone, Copy)]
+pub enum TextCode {
+    ReadInput, // IR
+    ReadOutput, // OR
+    SetOutput, // OS
+    PulseOutput, // OT
+    ReadTemperature, // RT
+    SetNotice, // IS
+    ReadNotice, // IX
+    GivePermission, // E
+    SetAddress, // AS
+    SetSpeed, // SS
 }
 
 // Why a call is refused, each by its number.

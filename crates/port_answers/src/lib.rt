@@ -1,11 +1,12 @@
-// The replies of both ports: what is told of a request, framed as its port frames it.
+// The replies of both ports, and of text: what is told of a request, framed as its kind is.
 #![tactic(auto)]
 
-ghost use Rattle.std.specs.Prelude.{◌≡◌};
+ghost use Rattle.std.specs.Prelude.{◌≡◌, ℕ, List};
 ghost use Rattle.lists.specs.Data.{data_of};
 ghost use Rattle.model.specs.declared.Module.{Module as ModuleOf};
 ghost use Rattle.model.specs.Spinel.{spinel_wire};
 ghost use Rattle.model.specs.Modbus.{modbus_wire};
+ghost use Rattle.model.specs.Text.{text_wire};
 ghost use Rattle.encoding.specs.Answers.{told};
 ghost use Rattle.wires.specs.Answers.{done_of};
 
@@ -26,6 +27,20 @@ pub fn reply_on_spinel(own: u8, frame: &[u8], answer: Result<Data, Refusal>) -> 
             replies::ack_of(refusal.number()),
             encoding::empty(),
         ),
+    }
+}
+
+// The text reply: what is told, or the digit of the ACK that tells a refusal, from the module's own address.
+pub fn reply_on_text(own: u8, answer: Result<Data, Refusal>) -> Data
+    ensures { (f : List ℕ) (m : ModuleOf) → result ≡ data_of (text_wire.replied own f (done_of 252 m (told answer))) }
+{
+    match answer {
+        Ok(body) => replies::text_reply(own, body.as_slice()),
+        Err(refusal) => {
+            let number = refusal.number();
+            let ack = replies::ack_of(number);
+            replies::text_reply(own, &[replies::last_digit(u16::from(ack))])
+        }
     }
 }
 

@@ -4,11 +4,11 @@
 ghost use Rattle.std.specs.Prelude.{◌≡◌, cond, not, ◌&&◌, ℕ, eqb, length, get_or};
 ghost use mathlib.Core.List.{foldl};
 ghost use Rattle.lists.specs.Tests.{all};
-ghost use Rattle.model.specs.State.{permit};
+ghost use Rattle.model.specs.State.{permit, is_on, turned_off};
 ghost use Rattle.model.specs.Numbers.{refused_by};
 ghost use Rattle.model.specs.Refusals.{refusal_of};
 ghost use Rattle.model.specs.Counters.{read_port};
-ghost use Rattle.model.specs.Notice.{is_on, mask_given, set_notice, read_notice};
+ghost use Rattle.model.specs.Notice.{mask_given, set_notice, read_notice};
 ghost use Rattle.model.specs.SumTest.{read_sum_test};
 ghost use Rattle.model.specs.Registers.{port_settable};
 ghost use Rattle.encoding.specs.Answers.{told, told_of};
@@ -38,12 +38,30 @@ fn mask_given(d: &[u8]) -> u16
     }
 }
 
+// Whether the notice is on, in either format.
+pub fn is_on(n: Notice) -> bool
+    ensures { result ≡ is_on n }
+{
+    n.format != 0
+}
+
+// The notice off, with no input in its mask.
+pub fn turned_off(n: Notice) -> Notice
+    ensures { result ≡ turned_off n }
+{
+    Notice {
+        format: 0,
+        mask: 0,
+        ..n
+    }
+}
+
 // Whether 10H's first byte and length do not go with the notice as it is.
 fn notice_unfit(d: &[u8], n: Notice) -> bool
     ensures { result ≡ cond (eqb (get_or d.now 0 0) 1) (is_on n) (not (eqb (get_or d.now 0 0) 0 && eqb (length d.now) 1)) }
 {
     match encoding::at(d, 0) {
-        1 => n.format != 0,
+        1 => is_on(n),
         0 => d.len() != 1,
         _ => true,
     }
@@ -70,11 +88,7 @@ pub fn notice_set(signature: u8, d: &[u8], n: Notice) -> Notice
             signature,
         }
     } else {
-        Notice {
-            format: 0,
-            mask: 0,
-            ..n
-        }
+        turned_off(n)
     }
 }
 

@@ -15,6 +15,7 @@ use Rattle.lists.specs.Data.{padded, data_of}
 use Rattle.lists.specs.Numbers.{bytes}
 use Rattle.lists.proofs.DataLaws.{padded_push, bytes_in_lem}
 use Rattle.model.specs.Frames.{sum_of, spinel_reply, crc_of, with_crc, modbus_reply}
+use Rattle.model.specs.Text.{text_reply}
 use Rattle.lists.proofs.Parts.{take-most, drop_zeros}
 
 -- Arrays ---------------------------------------------------------------------------------
@@ -41,7 +42,7 @@ placed_law l xs h =
     rw (take_at l (replicate (256 - length l) 0) (length l) refl, take_all (length xs) xs (omega arith), rest, append_assoc)
 
 -- a head, and then data
-pub begun_law : (head d : List ℕ) → length head + length d ≤ 254 → paste (paste (replicate 256 0) 0 head (length head)) (length head) d (length d) ≡ padded (head ++ d)
+pub begun_law : (head d : List ℕ) → length head + length d ≤ 256 → paste (paste (replicate 256 0) 0 head (length head)) (length head) d (length d) ≡ padded (head ++ d)
 unfolding padded
 begun_law head d h = rw (placed_law [] head (omega arith)) (placed_law head d (omega arith))
 
@@ -93,3 +94,14 @@ modbus_stored address function n l e b q =
     let head : List ℕ = address ∷ function ∷ [] in
     let long : length (head ++ take n l) ≡ 2 + n = length-append head (take n l) ∙ ap (2 +◌) (some_long l n 252 e) in
     rw (q, ← some_law l n 252 e) (framed_law (head ++ take n l) (2 + n) long (omega (arith, some_most l n 252 e)) (λ x. crc_of x % 256) (λ x. crc_of x / 256))
+
+pub text_stored : (address n : ℕ) (l : List ℕ) → n ≡ min (length l) 252
+    → (b : List ℕ) → b ≡ padded ((0x2A ∷ 0x42 ∷ address ∷ []) ++ take n l)
+    → record { items = set b (3 + n) 0x0D; len = 3 + n + 1 } ≡ data_of (text_reply address (take 252 l))
+unfolding text_reply
+text_stored address n l e b q =
+    let head : List ℕ = 0x2A ∷ 0x42 ∷ address ∷ take n l in
+    let long : length head ≡ 3 + n = length-append (0x2A ∷ 0x42 ∷ address ∷ []) (take n l) ∙ ap (3 +◌) (some_long l n 252 e) in
+    let all : length (head ++ 0x0D ∷ []) ≡ 3 + n + 1 = length-append head (0x0D ∷ []) ∙ ap (◌+ 1) long in
+    let last : set (padded head) (3 + n) 0x0D ≡ padded (head ++ 0x0D ∷ []) = rw (← long) (padded_push head 0x0D (omega (arith, some_most l n 252 e))) in
+    rw (q, ← some_law l n 252 e, last, all)

@@ -1,4 +1,4 @@
-// The framing of both ports' replies and exceptions (01, Frames), and the ACK or code that tells a refusal.
+// The framing of both ports' replies and exceptions (01, Frames) and of text (E2), and the ACK or code that tells a refusal.
 #![tactic(auto)]
 
 ghost use Rattle.std.specs.Prelude.{◌≡◌, ◌+◌, ◌≤◌, ◌++◌, length, take};
@@ -7,6 +7,7 @@ ghost use Rattle.lists.specs.Data.{padded, data_of};
 ghost use Rattle.lists.specs.Numbers.{bytes};
 ghost use Rattle.model.specs.Frames.{spinel_reply, modbus_reply, exception_function, exception_reply};
 ghost use Rattle.model.specs.Refusals.{ack_of, exception_of};
+ghost use Rattle.model.specs.Text.{state_letter, last_digit, text_reply};
 ghost use Rattle.replies.specs.Replies.{spinel_replied, modbus_replied};
 
 use lists::Data;
@@ -47,10 +48,10 @@ fn place(start: [u8; 256], at: usize, from: &[u8]) -> [u8; 256]
     bytes
 }
 
-// A reply up to its last two bytes, its head and then its data, in the one array that is filled in place.
+// A reply up to its last bytes, its head and then its data, in the one array that is filled in place.
 #[tactic(auto, using(crate::proofs::Framing::begun_law))]
 fn begun(head: &[u8], d: &[u8]) -> [u8; 256]
-    requires { length head.now + length d.now ≤ 254 }
+    requires { length head.now + length d.now ≤ 256 }
     ensures { result ≡ padded (head.now ++ d.now) }
 {
     place(place([0; 256], 0, head), head.len(), d)
@@ -94,6 +95,34 @@ pub fn word_reply(address: u8, signature: u8, ack: u8, word: u16) -> [u8; 11]
     [
         0x2A, 0x61, 0x00, 0x07, address, signature, ack, high, low, sum, 0x0D,
     ]
+}
+
+// The letter that tells a state in text.
+pub fn state_letter(on: bool) -> u8
+    ensures { result ≡ state_letter on }
+{
+    if on { b'H' } else { b'L' }
+}
+
+// The digit for the lowest decimal place of a number.
+pub fn last_digit(n: u16) -> u8
+    ensures { result ≡ last_digit n }
+{
+    b'0' + (n % 10) as u8
+}
+
+// A text reply: `*B` and the address, what is told, and a carriage return. 256 bytes less 4 are told at most.
+pub fn text_reply(address: u8, told: &[u8]) -> Data
+    ensures { result ≡ data_of (text_reply address (take 252 told.now)) }
+{
+    let n = told.len().min(252);
+    let end = 3 + n;
+    let mut bytes = begun(&[b'*', b'B', address], &told[..n]);
+    bytes[end] = b'\r';
+    Data {
+        items: bytes,
+        len: end + 1,
+    }
 }
 
 // Address, function and body, then their CRC, low byte first.

@@ -1,4 +1,4 @@
-// The Spinel port: its wire, and the instruction byte that picks what serves a frame that passes its checks.
+// Binary frames on the Spinel port: their wire, and the instruction byte that picks what serves a frame that passes its checks.
 #![tactic(auto)]
 
 ghost use Rattle.model.specs.Spinel.{spinel_wire};

@@ -1,4 +1,4 @@
-// What both ports do with a frame, once, over what differs between their wires.
+// What is done with a frame, once, over what differs between the wires that frames come by.
 #![tactic(auto)]
 
 ghost use Rattle.std.specs.Prelude.{◌≡◌, ℕ, ◌≤◌, Bool, List, eqb, length};
