@@ -2,14 +2,16 @@
 use Prim.Native.Nat.{ℕ, zero, suc, ◌+◌, ◌-◌, ◌/◌, ◌%◌, ◌^◌, ◌<◌, ◌≤◌}
 use native.Mathlib.Omega.{arith}
 use native.Mathlib.Nat.{pow-suc}
-use mathlib.Core.Path.{◌≡◌, refl, sym}
+use mathlib.Core.Path.{◌≡◌, refl, sym, ap, ◌∙◌}
 use mathlib.Core.Bool.{Bool, true, false, cond}
-use mathlib.Core.List.{List, [], ◌∷◌, ◌++◌, append_assoc}
+use mathlib.Core.List.{List, [], ◌∷◌, ◌++◌, foldl, append_assoc, append-nil}
 use lib.Dec.{ltb}
-use lib.ListN.{length, drop, set, replicate, length-append}
+use lib.ListN.{length, drop, set, length-append}
 use lib.Seq.{drop-cons, drop-set-lt, get_or-set_same, lt-length-set}
 use borrow.Author.Tests.{lt-ltb, le-ltb, ltb-false}
 use Rattle.digits.specs.Writing.{character, written, places_in, places, decimal_text, padded}
+use Rattle.lists.specs.declared.Bounded.{Bounded}
+use Rattle.lists.specs.Bounded.{added}
 use Rattle.lists.proofs.DataLaws.{filled_push}
 
 pub length-written : (base w n : ℕ) → length (written base w n) ≡ w
@@ -71,3 +73,18 @@ stored base (suc j) left bytes h k =
 pub padded_push : (w : ℕ) (l : List ℕ) (b : ℕ) → length l < w → set (padded w l) (length l) b ≡ padded w (l ++ b ∷ [])
 unfolding padded
 padded_push w l b h = filled_push w 0 l b h
+
+-- the characters l by value, in room for w
+abbrev pub held : (w : ℕ) → List ℕ → Bounded ℕ w
+held w l = record { items = padded w l; len = length l }
+
+-- one character more
+pub push_held : (w : ℕ) (l : List ℕ) (b : ℕ) {t : Bounded ℕ w} → length l < w → t ≡ held w l → added t b ≡ held w (l ++ b ∷ [])
+unfolding added
+push_held w l b h e = rw (e, lt-ltb (length l) w h, padded_push w l b h, length-append)
+
+-- some characters more
+pub append_held : (w : ℕ) (l m : List ℕ) {t : Bounded ℕ w} → length l + length m ≤ w → t ≡ held w l → foldl added t m ≡ held w (l ++ m)
+append_held w l [] h e = rw append-nil e
+append_held w l (b ∷ m) h e =
+    append_held w (l ++ b ∷ []) m (simp length-append (omega arith)) (push_held w l b (omega arith) e) ∙ ap (held w) (append_assoc l (b ∷ []) m)

@@ -12,7 +12,7 @@ use Rattle.model.specs.Refusals.{Out}
 use Rattle.model.specs.Call.{call, sample}
 use Rattle.model.specs.Calls.{Answered, sample_call, step, run}
 use Rattle.texts.specs.Texts.{Text, answer_text, text_of}
-use Rattle.player.specs.Answers.{frame_text, notice_text, printed}
+use Rattle.player.specs.Answers.{notice_text, printed}
 use Rattle.player.specs.Scripts.{in_turn}
 
 module _ {o : Out} {a : Answer} {old new : List ℕ} (p : Answered o a old new) where
@@ -22,14 +22,15 @@ module _ {o : Out} {a : Answer} {old new : List ℕ} (p : Answered o a old new) 
   reply_shown : take a.len new ≡ o.reply
   reply_shown = rw (length-reply, p.buffer) (take-append_seam o.reply _)
 
-  pub frame_printed : {t : Text} → length new ≡ 256 → t ≡ text_of (answer_text a.refusal (take 256 (take a.len new))) → record { after = a.after; text = t } ≡ printed o (frame_text o)
-  frame_printed e q =
+  -- the text of an answer, where `told` tells a number and a reply
+  pub frame_printed : (told : ℕ → List ℕ → List ℕ) {t : Text} → length new ≡ 256 → t ≡ text_of (told a.refusal (take 256 (take a.len new))) → record { after = a.after; text = t } ≡ printed o (told o.refusal o.reply)
+  frame_printed told e q =
       let few : length (take a.len new) ≤ 256 = rw length-take (omega arith) in
       rw (q, take_all 256 (take a.len new) few, reply_shown, p.answer)
 
   pub notice_printed : {t : Text} → length new ≡ 256 → (a.len ≡ 0 → ⊥) → t ≡ text_of (answer_text a.refusal (take 256 (take a.len new))) → record { after = a.after; text = t } ≡ printed o (notice_text o)
   unfolding notice_text
-  notice_printed e h q = rw (ne_eqb (length o.reply) 0 (rw length-reply at h)) (frame_printed e q)
+  notice_printed e h q = rw (ne_eqb (length o.reply) 0 (rw length-reply at h)) (frame_printed answer_text e q)
 
   pub notice_none : a.len ≡ 0 → record { after = a.after; text = text_of [] } ≡ printed o (notice_text o)
   unfolding notice_text

@@ -14,7 +14,7 @@ use Rattle.std.proofs.lemmas.List.Splits.{slice_split_first}
 use Rattle.model.specs.declared.Module.{Module}
 use Rattle.model.specs.Call.{Call}
 use Rattle.model.specs.Calls.{step, run}
-use Rattle.script.specs.Words.{leading, split, uncr, body}
+use Rattle.script.specs.Words.{leading, split, behind, uncr, body}
 use Rattle.script.specs.Parsed.{Parsed}
 use Rattle.script.specs.Lines.{wrong, parsed_line, by_parts}
 use Rattle.script.specs.Results.{number_of}
@@ -77,7 +77,7 @@ split_none (b ∷ l) h = go (eqb b 10) h (split_none l)
 
 -- an empty line has no calls
 no_calls : lines_calls (lines [] []) ≡ []
-unfolding lines lines_calls line_calls parsed_line by_parts body uncr leading split
+unfolding lines lines_calls line_calls parsed_line by_parts body uncr leading split behind
 no_calls = refl
 
 none_past : (l n : ℕ) → cond (ltb l n) (Some l) None ≡ None → n ≤ l

@@ -1,11 +1,15 @@
 -- What is printed of a call's answer.
 use Rattle.std.specs.Prelude.{ℕ, cond, List, [], eqb, length}
 use Rattle.model.specs.Refusals.{Out}
-use Rattle.texts.specs.Texts.{answer_text, text_of}
+use Rattle.texts.specs.Texts.{answer_text, answer_characters, text_of}
 use Rattle.player.specs.declared.Printed.{Printed}
 
 abbrev pub frame_text : Out → List ℕ
 frame_text o = answer_text o.refusal o.reply
+
+-- of a `text` line
+abbrev pub characters_text : Out → List ℕ
+characters_text o = answer_characters o.refusal o.reply
 
 -- a sample without a notice prints nothing
 unfoldable pub notice_text : Out → List ℕ

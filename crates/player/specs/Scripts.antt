@@ -32,7 +32,8 @@ line_calls x =
     (cond (eqb x.kind 2) (call 256 (temperature true x.tenths) ∷ [])
     (cond (eqb x.kind 3) (call 256 (temperature false (pos 0)) ∷ [])
     (cond (eqb x.kind 4) (call 256 (spinel (take x.len x.frame)) ∷ [])
-    (cond (eqb x.kind 5) (call 256 (modbus (take x.len x.frame)) ∷ []) [])))))
+    (cond (eqb x.kind 5) (call 256 (modbus (take x.len x.frame)) ∷ [])
+    (cond (eqb x.kind 8) (call 256 (spinel (take x.len x.frame)) ∷ []) []))))))
 
 -- the calls of some lines
 unfoldable pub lines_calls : List (List ℕ) → List Call

@@ -4,10 +4,10 @@
 ghost use Rattle.std.specs.Prelude.{◌≡◌, ◌<◌, ◌≤◌, [], ◌++◌, length, replicate, take};
 ghost use Rattle.model.specs.State.{fresh_module};
 ghost use Rattle.model.specs.Call.{call, sample};
-ghost use Rattle.model.specs.Calls.{sample_call, temperature_call, Answered, run};
+ghost use Rattle.model.specs.Calls.{sample_call, temperature_call, spinel_call, Answered, run};
 ghost use Rattle.script.specs.Lines.{parsed_line};
 ghost use Rattle.script.specs.Results.{line_parsed};
-ghost use Rattle.player.specs.Answers.{frame_text, notice_text, printed};
+ghost use Rattle.player.specs.Answers.{frame_text, characters_text, notice_text, printed};
 ghost use Rattle.player.specs.Scripts.{frame_call, in_turn, line_calls, lines, lines_calls, script_calls};
 
 use model::{Answer, Module};
@@ -72,6 +72,19 @@ fn frame_text(m: Module, port: Port, frame: &[u8]) -> Printed
     }
 }
 
+// One frame in characters on the Spinel port, and the line of its answer.
+fn characters_text(m: Module, frame: &[u8]) -> Printed
+    ensures { result ≡ printed (spinel_call 256 frame.now m) (characters_text (spinel_call 256 frame.now m)) }
+{
+    let mut reply = [0u8; 256];
+    let a = iomodule::spinel(m, frame, &mut reply);
+    let text = texts::answer_characters(a.refusal, &reply[..a.len]);
+    Printed {
+        after: a.after,
+        text,
+    }
+}
+
 // What is printed has no contract: std's write_all promises nothing of it, and a write that fails is passed over.
 // The text that it is given has one.
 fn print_text(rt: &impl Print, text: Text) {
@@ -127,6 +140,15 @@ fn play_frame(rt: &impl Print, m: Module, port: Port, frame: Frame) -> Module
     p.after
 }
 
+// A frame in characters, its answer printed.
+fn play_text(rt: &impl Print, m: Module, frame: Frame) -> Module
+    ensures { result ≡ (spinel_call 256 (take frame.len frame.items) m).after }
+{
+    let p = characters_text(m, frame.as_slice());
+    print_text(rt, p.text);
+    p.after
+}
+
 // The calls of a line.
 #[tactic(auto, unfolding(crate::specs::Scripts::line_calls, model::specs::Calls::run, model::specs::Calls::step))]
 fn play_calls(rt: &impl Print, m: Module, line: Line) -> Module
@@ -144,6 +166,7 @@ fn play_calls(rt: &impl Print, m: Module, line: Line) -> Module
         Line::Fault => play_temperature(m, false, 0),
         Line::Spinel(frame) => play_frame(rt, m, Port::Spinel, frame),
         Line::Modbus(frame) => play_frame(rt, m, Port::Modbus, frame),
+        Line::Text(frame) => play_text(rt, m, frame),
     }
 }
 

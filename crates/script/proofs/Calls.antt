@@ -12,7 +12,7 @@ use Rattle.std.specs.Result.{IsErr, IsErrAnd}
 use Rattle.model.specs.Temperature.{signed_of}
 use Rattle.digits.specs.Reading.{hex, decimal, signed_decimal}
 use Rattle.script.specs.Words.{same}
-use Rattle.script.specs.Lines.{of_kind, wrong, good_samples, good_tenths, sampled, sample, toggle, temperature, tenths_of, framed, fault_word, sample_word, toggle_word, temperature_word, spinel_word, modbus_word, keyword, called}
+use Rattle.script.specs.Lines.{of_kind, wrong, good_samples, good_tenths, sampled, sample, toggle, temperature, tenths_of, framed, text_frame, texted, fault_word, sample_word, toggle_word, temperature_word, spinel_word, modbus_word, text_word, keyword, called}
 use Rattle.script.specs.declared.Reason.{Reason}
 
 -- what a `?` returns of an error
@@ -84,31 +84,36 @@ unfolding tenths_of
 tenths_none p h = rw (le-ltb p 65536 h)
 
 -- by its first word
-module _ (w : List ℕ) (p : List (List ℕ)) where
-  pub called_sample : same w sample_word ≡ true → sample p ≡ called (keyword w) p
+module _ (w : List ℕ) (p : List (List ℕ)) (l : List ℕ) where
+  pub called_sample : same w sample_word ≡ true → sample p ≡ called (keyword w) p l
   unfolding keyword called
   called_sample e = rw e
 
   module _ (a : same w sample_word ≡ false) where
-    pub called_toggle : same w toggle_word ≡ true → toggle p ≡ called (keyword w) p
+    pub called_toggle : same w toggle_word ≡ true → toggle p ≡ called (keyword w) p l
     unfolding keyword called
     called_toggle e = rw (a, e)
 
     module _ (b : same w toggle_word ≡ false) where
-      pub called_temperature : same w temperature_word ≡ true → temperature p ≡ called (keyword w) p
+      pub called_temperature : same w temperature_word ≡ true → temperature p ≡ called (keyword w) p l
       unfolding keyword called
       called_temperature e = rw (a, b, e)
 
       module _ (d : same w temperature_word ≡ false) where
-        pub called_spinel : same w spinel_word ≡ true → framed (of_kind 4) p ≡ called (keyword w) p
+        pub called_spinel : same w spinel_word ≡ true → framed (of_kind 4) p ≡ called (keyword w) p l
         unfolding keyword called
         called_spinel e = rw (a, b, d, e)
 
         module _ (f : same w spinel_word ≡ false) where
-          pub called_modbus : same w modbus_word ≡ true → framed (of_kind 5) p ≡ called (keyword w) p
+          pub called_modbus : same w modbus_word ≡ true → framed (of_kind 5) p ≡ called (keyword w) p l
           unfolding keyword called
           called_modbus e = rw (a, b, d, f, e)
 
-          pub called_other : same w modbus_word ≡ false → wrong 1 ≡ called (keyword w) p
-          unfolding keyword called
-          called_other e = rw (a, b, d, f, e)
+          module _ (g : same w modbus_word ≡ false) where
+            pub called_text : same w text_word ≡ true → texted (text_frame l) ≡ called (keyword w) p l
+            unfolding keyword called
+            called_text e = rw (a, b, d, f, g, e)
+
+            pub called_other : same w text_word ≡ false → wrong 1 ≡ called (keyword w) p l
+            unfolding keyword called
+            called_other e = rw (a, b, d, f, g, e)

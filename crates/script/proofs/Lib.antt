@@ -4,4 +4,5 @@ pub mod Sames
 pub mod Calls
 pub mod Frames
 pub mod Bodies
+pub mod Ends
 pub mod Examples

@@ -7,7 +7,7 @@ use mathlib.Core.List.{List, [], ◌∷◌, ◌++◌, append-nil, append_assoc}
 use lib.ListN.{length, take, drop, length-drop}
 use Rattle.lists.proofs.ChunkLaws.{rest_whole}
 use Rattle.script.proofs.Leading.{leading_le}
-use Rattle.script.specs.Words.{blank, solid, leading, split, parts}
+use Rattle.script.specs.Words.{blank, solid, leading, split, parts, skipped, behind}
 
 -- a blank between words is passed over
 skip_blank : (b : ℕ) (l : List ℕ) → blank b ≡ true → split [] (b ∷ l) ≡ split [] l
@@ -41,10 +41,6 @@ parts_none (b ∷ l) h = go (blank b) refl h (parts_none l)
     go : (t : Bool) → blank b ≡ t → suc (length l) ≡ cond t (suc (leading blank l)) 0 → (length l ≡ leading blank l → split [] l ≡ []) → cond t (split [] l) (split (b ∷ []) l) ≡ []
     go true e h f = f (omega arith)
     go false e h f = absurd (let z : ⊥ = omega arith in z)
-
--- what stands from the first word on
-abbrev skipped : List ℕ → List ℕ
-skipped l = drop (leading blank l) l
 
 abbrev first_word : List ℕ → List ℕ
 first_word l = take (leading solid (skipped l)) (skipped l)
@@ -89,6 +85,10 @@ module _ (l : List ℕ) (a : ℕ) (p : a ≡ leading blank l) where
 
     pub word_left : parts l ≡ take n (take (length l - a) (drop a l)) ∷ parts (drop n (take (length l - a) (drop a l)))
     word_left = rw (q, whole) (parts_first l some)
+
+    pub behind_left : drop n (take (length l - a) (drop a l)) ≡ behind l
+    unfolding behind
+    behind_left = rw (q, whole)
 
     pub less_left : length (drop n (take (length l - a) (drop a l))) < length l
     less_left = rw (q, whole) (simp length-drop (omega (arith, some_solid l some, leading_le blank l, some)))

@@ -4,7 +4,7 @@ use Rattle.script.specs.Parsed.{Parsed}
 use Rattle.script.specs.Lines.{of_kind, wrong, good_samples, good_tenths}
 use Rattle.lists.specs.declared.Bounded.{Bounded}
 use Rattle.script.specs.declared.Line.{Line}
-use Rattle.script.specs.declared.Line.TheVariants.{Empty, Samples, Toggles, Temperature, Fault, Spinel, Modbus}
+use Rattle.script.specs.declared.Line.TheVariants.{Empty, Samples, Toggles, Temperature, Fault, Spinel, Modbus, Text}
 use Rattle.script.specs.declared.Reason.{Reason}
 use Rattle.script.specs.declared.Reason.TheVariants.{UnknownWord, BadHex, BadNumber, TooManyWords, FrameTooLong, MissingWord}
 
@@ -31,6 +31,7 @@ line_parsed (Temperature t) = good_tenths t
 line_parsed Fault = of_kind 3
 line_parsed (Spinel f) = with_frame 4 f
 line_parsed (Modbus f) = with_frame 5 f
+line_parsed (Text f) = with_frame 8 f
 
 abbrev pub parsed_of : Result Line Reason → Parsed
 parsed_of (Ok l) = line_parsed l

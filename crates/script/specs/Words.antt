@@ -1,5 +1,5 @@
 -- A line as words.
-use Rattle.std.specs.Prelude.{ℕ, suc, ◌-◌, Bool, true, false, cond, not, ◌||◌, List, [], ◌∷◌, ◌++◌, eqb, length, get_or, take}
+use Rattle.std.specs.Prelude.{ℕ, suc, ◌-◌, Bool, true, false, cond, not, ◌||◌, List, [], ◌∷◌, ◌++◌, eqb, length, get_or, take, drop}
 
 -- a space or a tab
 abbrev pub blank : ℕ → Bool
@@ -40,6 +40,24 @@ split (a ∷ w) (b ∷ l) = cond (blank b) ((a ∷ w) ∷ split [] l) (split (a 
 -- all its words: its parts between blanks
 abbrev pub parts : List ℕ → List (List ℕ)
 parts l = split [] l
+
+-- a line from its first word on
+abbrev pub skipped : List ℕ → List ℕ
+skipped l = drop (leading blank l) l
+
+-- what stands behind its first word
+unfoldable pub behind : List ℕ → List ℕ
+behind l = drop (leading solid (skipped l)) (skipped l)
+
+-- a byte and what stands behind it; a blank with nothing behind it is left out
+unfoldable pub kept : ℕ → List ℕ → List ℕ
+kept b [] = cond (blank b) [] (b ∷ [])
+kept b (c ∷ l) = b ∷ c ∷ l
+
+-- without the blanks at the end
+unfoldable pub trimmed : List ℕ → List ℕ
+trimmed [] = []
+trimmed (b ∷ l) = kept b (trimmed l)
 
 -- the same bytes
 unfoldable pub same : List ℕ → List ℕ → Bool

@@ -3,8 +3,8 @@
 
 ghost use Rattle.std.specs.Prelude.{ℕ, ◌≡◌, ◌<◌, ◌≤◌, true, ◌||◌, [], ◌∷◌, eqb, ltb, length, MatchOption, MatchResult, IfSome};
 ghost use Rattle.digits.specs.Reading.{hex, decimal};
-ghost use Rattle.script.specs.Words.{blank, solid, other, plain, leading, uncr, body, parts, same};
-ghost use Rattle.script.specs.Lines.{of_kind, sample, toggle, temperature, framed, keyword, called, parsed_line};
+ghost use Rattle.script.specs.Words.{blank, solid, other, plain, leading, uncr, body, parts, behind, trimmed, same};
+ghost use Rattle.script.specs.Lines.{of_kind, sample, toggle, temperature, framed, text_frame, texted, keyword, called, parsed_line};
 ghost use Rattle.script.specs.Results.{parsed_of, frame_parsed};
 ghost use Rattle.script.specs.declared.Reason.TheVariants.{BadHex, BadNumber};
 
@@ -24,6 +24,7 @@ pub enum Line {
     Fault,
     Spinel(Frame),
     Modbus(Frame),
+    Text(Frame),
 }
 
 // Why a line is wrong.
@@ -41,7 +42,7 @@ impl fmt::Display for Reason {
     fn fmt<W: fmt::Write>(&self, f: &mut fmt::Formatter<W>) -> fmt::Result {
         f.write_str(match self {
             Reason::UnknownWord => {
-                "unknown word: expected sample, toggle, temperature, spinel or modbus"
+                "unknown word: expected sample, toggle, temperature, spinel, modbus or text"
             }
             Reason::BadHex => {
                 "bad hex: expected four hex digits after sample, twice four after toggle, two hex digits for each byte of a frame"
@@ -91,6 +92,7 @@ fn stop_at(s: &[u8], stop: u8) -> usize
 // The first word and what follows it, or nothing where no word is left.
 fn next_word(s: &[u8]) -> Option<(&[u8], &[u8])>
     ensures cases { MatchOption result (parts s.now ≡ []) (λ p. parts s.now ≡ p.0.now ∷ parts p.1.now) }
+    ensures rest { IfSome result (λ p. p.1.now ≡ behind s.now) }
     ensures shorter { IfSome result (λ p. length p.1.now < length s.now) }
 {
     let start = &s[blanks(s)..];
@@ -101,7 +103,7 @@ fn next_word(s: &[u8]) -> Option<(&[u8], &[u8])>
 }
 
 // The line without a CR at its end.
-fn without_cr(line: &[u8]) -> &[u8]
+pub fn without_cr(line: &[u8]) -> &[u8]
     ensures { result.now ≡ uncr line.now }
 {
     line.strip_suffix(b"\r").unwrap_or(line)
@@ -113,6 +115,17 @@ fn body_of(line: &[u8]) -> &[u8]
 {
     let s = without_cr(line);
     &s[..stop_at(s, b'#')]
+}
+
+// The bytes without the blanks at their end.
+fn trimmed(s: &[u8]) -> &[u8]
+    ensures { result.now ≡ trimmed s.now }
+{
+    let mut end = s.len();
+    while 0 < end && is_blank(s[end - 1]) {
+        end -= 1;
+    }
+    &s[..end]
 }
 
 // Sixteen bits in four hex digits.
@@ -210,9 +223,20 @@ fn frame_of(s: &[u8]) -> Result<Frame, Reason>
     Ok(frame)
 }
 
+// The frame of a `text` line, by what stands behind the word: its characters and a CR.
+fn typed_of(s: &[u8]) -> Result<Frame, Reason>
+    ensures { frame_parsed 8 result ≡ texted (text_frame s.now) }
+{
+    let characters = trimmed(&s[s.len().min(1)..]);
+    if 300 <= characters.len() {
+        return Err(Reason::FrameTooLong);
+    }
+    Ok(Frame::empty(0).append(characters).push(b'\r'))
+}
+
 // A call by its first word and what follows it. A `match` on the word is compared byte by byte: a goal for each byte that differs.
 fn called_of(word: &[u8], s: &[u8]) -> Result<Line, Reason>
-    ensures { parsed_of result ≡ called (keyword word.now) (parts s.now) }
+    ensures { parsed_of result ≡ called (keyword word.now) (parts s.now) s.now }
 {
     if word == b"sample".as_slice() {
         return sample_of(s);
@@ -228,6 +252,9 @@ fn called_of(word: &[u8], s: &[u8]) -> Result<Line, Reason>
     }
     if word == b"modbus".as_slice() {
         return frame_of(s).map(Line::Modbus);
+    }
+    if word == b"text".as_slice() {
+        return typed_of(s).map(Line::Text);
     }
     Err(Reason::UnknownWord)
 }

@@ -1,15 +1,18 @@
 -- Laws of the loops that store an answer's characters. Assumes nothing.
-use Prim.Native.Nat.{ℕ, ◌+◌, ◌*◌, ◌<◌, ◌≤◌}
+use Prim.Native.Nat.{ℕ, ◌+◌, ◌-◌, ◌*◌, ◌<◌, ◌≤◌}
 use native.Mathlib.Numerals.{add-one}
 use native.Mathlib.Omega.{arith}
 use mathlib.Core.Path.{◌≡◌, refl, sym, ap, ◌∙◌}
+use mathlib.Core.Bool.{Bool, true, false, cond}
 use mathlib.Core.List.{List, [], ◌∷◌, ◌++◌, foldl, append_assoc, append-nil}
-use borrow.Author.Tests.{lt-ltb}
-use lib.ListN.{length, take, get_or, length-append}
+use Rattle.std.proofs.lemmas.List.{nil_from_length}
+use lib.Dec.{eqb}
+use lib.ListN.{length, take, get_or, length-append, length-take}
 use lib.Seq.{take-suc, take-append_seam}
 use Rattle.digits.specs.Writing.{Numeral, written, decimal_text, hex_text, padded, numeral_of}
-use Rattle.digits.proofs.Characters.{padded_push, length-decimal, length-written}
-use Rattle.texts.specs.Texts.{Text, bytes_text, text_of}
+use Rattle.digits.proofs.Characters.{push_held, append_held, length-decimal, length-written}
+use Rattle.script.specs.Words.{uncr}
+use Rattle.texts.specs.Texts.{Text, bytes_text, reply_characters, answer_characters, text_of}
 use Rattle.lists.specs.Bounded.{added}
 
 -- a numeral's characters
@@ -19,17 +22,10 @@ shown l e = rw e (take-append_seam l _)
 
 -- one character more
 pub push_law : (l : List ℕ) (b : ℕ) {t : Text} → length l < 772 → t ≡ text_of l → added t b ≡ text_of (l ++ b ∷ [])
-unfolding added
-push_law l b h e = rw (e, lt-ltb (length l) 772 h, padded_push 772 l b h, length-append)
-
--- some characters more
-append_law : (l m : List ℕ) {t : Text} → length l + length m ≤ 772 → t ≡ text_of l → foldl added t m ≡ text_of (l ++ m)
-append_law l [] h e = rw append-nil e
-append_law l (b ∷ m) h e =
-    append_law (l ++ b ∷ []) m (simp length-append (omega arith)) (push_law l b (omega arith) e) ∙ ap text_of (append_assoc l (b ∷ []) m)
+push_law l b h e = push_held 772 l b h e
 
 pub push_numeral : (l m : List ℕ) {number : Numeral} {t : Text} {s : List ℕ} → length l + length m ≤ 772 → number ≡ numeral_of m → s ≡ take number.len number.items → t ≡ text_of l → foldl added t s ≡ text_of (l ++ m)
-push_numeral l m h e f q = rw (f, shown m e) (append_law l m h q)
+push_numeral l m h e f q = rw (f, shown m e) (append_held 772 l m h q)
 
 -- a blank and the two digits of a byte
 pub push_byte : (l : List ℕ) (b : ℕ) {pair : Numeral} {t : Text} {s : List ℕ} → length l + 2 < 772 → pair ≡ numeral_of (hex_text b) → s ≡ take pair.len pair.items → t ≡ text_of l → foldl added (added t 32) s ≡ text_of (l ++ 32 ∷ hex_text b)
@@ -53,3 +49,39 @@ length-answer n k l h f = simp (length-append, length-bytes l) (omega (arith, le
 
 pub bytes_turn : (head l : List ℕ) (i : ℕ) → i < length l → (head ++ bytes_text (take i l)) ++ 32 ∷ hex_text (get_or l i 0) ≡ head ++ bytes_text (take (i + 1) l)
 bytes_turn head l i h = rw (add-one, take-suc l i 0 h, bytes_snoc) (append_assoc head (bytes_text (take i l)) (32 ∷ hex_text (get_or l i 0)))
+
+-- no longer without a CR
+length-uncr : (l : List ℕ) → length (uncr l) ≤ length l
+unfolding uncr
+length-uncr l = go (eqb (get_or l (length l - 1) 0) 13)
+  where
+    go : (t : Bool) → length (cond t (take (length l - 1) l) l) ≤ length l
+    go true = rw length-take (omega arith)
+    go false = omega arith
+
+reply_some : (s : List ℕ) → (length s ≡ 0 → ⊥) → reply_characters s ≡ 32 ∷ uncr s
+unfolding reply_characters
+reply_some [] h = absurd (h refl)
+reply_some (b ∷ s) h = refl
+
+-- a number alone, and one before a reply's characters
+module _ (n : ℕ) (s : List ℕ) (h : n < 256) {t : Text} (e : t ≡ text_of (decimal_text n)) where
+  room : length (decimal_text n) ≤ 3
+  room = length-decimal 2 n (omega arith)
+
+  pub number_alone : length s ≡ 0 → {u : Text} → u ≡ added t 10 → u ≡ text_of (answer_characters n s)
+  unfolding answer_characters reply_characters
+  number_alone p {u} q =
+      let none : s ≡ [] = nil_from_length s p in
+      q ∙ rw (none, append-nil) (push_law (decimal_text n) 10 (omega (arith, room)) e)
+
+  pub number_before : length s ≤ 256 → (length s ≡ 0 → ⊥) → {u v w : Text} {r : List ℕ} → u ≡ added t 32 → r ≡ uncr s → v ≡ foldl added u r → w ≡ added v 10 → w ≡ text_of (answer_characters n s)
+  unfolding answer_characters
+  number_before few p {u} {v} {w} f g i j =
+      let d = decimal_text n in
+      let c = uncr s in
+      let blank : u ≡ text_of (d ++ 32 ∷ []) = f ∙ push_law d 32 (omega (arith, room)) e in
+      let both : length (d ++ 32 ∷ []) + length c ≤ 260 = simp length-append (omega (arith, room, length-uncr s)) in
+      let shown : v ≡ text_of ((d ++ 32 ∷ []) ++ c) = i ∙ rw g (append_held 772 (d ++ 32 ∷ []) c (omega (arith, both)) blank) in
+      let whole : length ((d ++ 32 ∷ []) ++ c) ≤ 260 = simp length-append (rw length-append at both) in
+      j ∙ push_law ((d ++ 32 ∷ []) ++ c) 10 (omega (arith, whole)) shown ∙ rw (reply_some s p) (ap (λ l. text_of (l ++ 10 ∷ [])) (append_assoc d (32 ∷ []) c))

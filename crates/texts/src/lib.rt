@@ -3,7 +3,7 @@
 
 ghost use Rattle.std.specs.Prelude.{◌≡◌, take};
 ghost use Rattle.digits.specs.Writing.{decimal_text};
-ghost use Rattle.texts.specs.Texts.{text_of, answer_text};
+ghost use Rattle.texts.specs.Texts.{text_of, answer_text, answer_characters};
 
 use lists::Bounded;
 
@@ -29,4 +29,20 @@ pub fn answer_text(refusal: u8, reply: &[u8]) -> Text
         out = out.push(b' ').append(digits::hex_text(*b).as_slice());
     }
     out.push(b'\n')
+}
+
+// The number that an answer carries, a blank and the reply's characters without a CR at their end, and a line feed; without a
+// reply the number and a line feed.
+pub fn answer_characters(refusal: u8, reply: &[u8]) -> Text
+    ensures { result ≡ text_of (answer_characters refusal (take 256 reply.now)) }
+{
+    let shown = &reply[..reply.len().min(256)];
+    let number = number_text(refusal);
+    if shown.is_empty() {
+        return number.push(b'\n');
+    }
+    number
+        .push(b' ')
+        .append(script::without_cr(shown))
+        .push(b'\n')
 }
