@@ -15,10 +15,12 @@ from translate import ROOT, Definitions, Parser, Writer, parsed, python, read, t
 
 TABLES = {"RackTable": rows.RACK, "Witnesses": rows.WITNESSES, "FrameTable": rows.FRAMES, "SampleTable": rows.SAMPLES,
           "CounterTable": rows.COUNTERS, "PortTable": rows.PORTS, "OutputTable": rows.OUTPUTS, "NoticeTable": rows.NOTICES,
-          "ThermostatTable": rows.THERMOSTATS, "RegisterTable": rows.REGISTERS, "CoilTable": rows.COILS, "UnreachedTable": rows.UNREACHED}
+          "ThermostatTable": rows.THERMOSTATS, "RegisterTable": rows.REGISTERS, "CoilTable": rows.COILS, "TextTable": rows.TEXTS,
+          "UnreachedTable": rows.UNREACHED}
 # a state that is too far for playing, as the law of Wraps gives it
 NEARER = {"(run fresh_module (cycles 2147483647))": "counted 4294967294"}
 PROGRAMS = ["rack", "scenarios"]
+TEXT = b"*B"  # what a reply in text begins with, which has no checksum
 LONG = 1000  # samples: no row has more, but the scripts have
 
 
@@ -92,7 +94,7 @@ def told(row, answer, values):
     number, reply = answer
     if not (number or reply or is_frame(row[0])):
         return []
-    if reply and "bytes" not in row[0]:
+    if reply and "bytes" not in row[0] and bytes(reply[:2]) != TEXT:
         reply = closed(row[0], reply, values)
     return [(number, tuple(reply))] * (row[2] if row[0] == "sample" else 1)
 
@@ -129,10 +131,10 @@ def run_down(before, state, count):
 # Cases and scripts -----------------------------------------------------------------------
 
 class Line:
-    """A row of a case or a line of a script: its calls, what is told of them, the states before and after it, what it calls."""
+    """A row of a case or a line of a script: its calls, what is told of them, the states before and after it, what it calls; is it text."""
 
-    def __init__(self, calls, answers=None, row=None):
-        self.calls, self.answers, self.row = calls, answers, row
+    def __init__(self, calls, answers=None, row=None, typed=False):
+        self.calls, self.answers, self.row, self.typed = calls, answers, row, typed
         self.before = self.after = self.called = None
 
 
@@ -183,11 +185,14 @@ def cases(world):
             yield Sequence(world, "%s.%s" % (table, name), "row", start, lines)
 
 
-def script_calls(words):
+def script_calls(line):
     """The calls of a script's line."""
-    if not words or words[0] not in (b"sample", b"toggle", b"temperature", b"spinel", b"modbus"):
+    words = play.words(line)
+    if not words or words[0] not in (b"sample", b"toggle", b"temperature", b"spinel", b"modbus", b"text"):
         raise play.Wrong(play.UNKNOWN)
     kind, rest = words[0].decode(), words[1:]
+    if kind == "text":
+        return [(call("spinel", tuple(play.text(line))), 1)]
     if kind == "sample":
         bits, count = play.sample(rest)
         return [(call(kind, bits), count)]
@@ -201,19 +206,26 @@ def script_lines(text):
     """The lines of a script that are calls."""
     for line in text.split(b"\n"):
         try:
-            yield Line(script_calls(play.words(line)))
+            yield Line(script_calls(line), typed=play.words(line)[:1] == [b"text"])
         except play.Wrong:
             pass
+
+
+def printed(line, number, reply):
+    """An answer as a program prints it."""
+    if line.typed and reply:
+        return "%d %s" % (number, bytes(reply[:-1]).decode("latin-1"))
+    return " ".join([str(number)] + ["%02X" % b for b in reply])
 
 
 def programs(world):
     """The programs' scripts; what they tell must be their stored output, but for the lines about wrong lines."""
     for name in PROGRAMS:
         folder = os.path.join(ROOT, "crates", name)
-        with open(os.path.join(folder, "stdin"), "rb") as script, open(os.path.join(folder, "stdout")) as stored:
+        with open(os.path.join(folder, "stdin"), "rb") as script, open(os.path.join(folder, "stdout"), encoding="latin-1") as stored:
             whole = Sequence(world, name, "program", "fresh_module", list(script_lines(script.read())))
             wanted = [line.rstrip("\n") for line in stored if line[0].isdigit()]
-        given = [" ".join([str(number)] + ["%02X" % b for b in reply]) for line in whole.lines for number, reply in line.answers]
+        given = [printed(line, number, reply) for line in whole.lines for number, reply in line.answers]
         if given != wanted:
             raise ValueError("the stored output of %s does not hold" % name)
         yield whole

@@ -3,9 +3,10 @@
 
 Usage: reference/play.py SCRIPT ..
 
-For each frame, and for each sample that writes a notice: the refusal's number (0: accepted) and the reply's bytes. For a line that is
-no call: its number and what is wrong; the rest is still played. The exit status is 1 if a line was wrong or a script too long, 2 for
-bad usage or a script that cannot be read. The format is the one of ./rack --help; the rules are crates/script/specs.
+For each frame, and for each sample that writes a notice: the refusal's number (0: accepted) and the reply's bytes; for a line `text` the
+reply's characters without the carriage return. For a line that is no call: its number and what is wrong; the rest is still played. The
+exit status is 1 if a line was wrong or a script too long, 2 for bad usage or a script that cannot be read. The format is the one of
+./rack --help; the rules are crates/script/specs.
 """
 import collections
 import re
@@ -17,14 +18,14 @@ import module
 LIMIT = 262144  # bytes of a script
 LONGEST = 300  # bytes of a frame
 CALLS = "expected sample HHHH, sample HHHH N, toggle HHHH HHHH N, temperature T or temperature fault"
-UNKNOWN = "unknown word: expected sample, toggle, temperature, spinel or modbus"
+UNKNOWN = "unknown word: expected sample, toggle, temperature, spinel, modbus or text"
 MISSING = "missing word: " + CALLS
 TOO_MANY = "too many words: " + CALLS
 BAD_HEX = "bad hex: expected four hex digits after sample, twice four after toggle, two hex digits for each byte of a frame"
 BAD_NUMBER = "bad number: expected 1 to 65535 samples or toggles, a temperature of -32768 to 32767 tenths, or fault"
 TOO_LONG = "frame too long: expected at most 300 bytes"
 
-# What is printed: the number of the script's line, "frame", "notice" or "wrong", and the text.
+# What is printed: the number of the script's line, "frame", "notice" or "wrong", and the text, a character for each byte.
 Printed = collections.namedtuple("Printed", "line kind text")
 
 
@@ -32,10 +33,14 @@ class Wrong(Exception):
     """A line that is no call, and why."""
 
 
+def plain(line):
+    """A line without a CR at its end and without a comment."""
+    return (line[:-1] if line.endswith(b"\r") else line).split(b"#")[0]
+
+
 def words(line):
-    """The words of a line: a CR at its end and a comment are left out; spaces and tabs stand between words."""
-    plain = line[:-1] if line.endswith(b"\r") else line
-    return re.findall(rb"[^ \t]+", plain.split(b"#")[0])
+    """The words of a line; spaces and tabs stand between them."""
+    return re.findall(rb"[^ \t]+", plain(line))
 
 
 def hexadecimal(word, digits):
@@ -96,6 +101,20 @@ def frame(rest):
     return data
 
 
+def text(line):
+    """The frame of a line `text`: what stands behind the one space or tab that ends the word, spaces and tabs at the end left out; and a CR."""
+    data = re.match(rb"[ \t]*text[ \t]?(.*)\Z", plain(line), re.S).group(1).rstrip(b" \t") + b"\r"
+    if len(data) > LONGEST:
+        raise Wrong(TOO_LONG)
+    return data
+
+
+def shown(number, answered):
+    """The line of an answer to it: the reply as it is, but for its last byte, the CR."""
+    refusal, reply = answered
+    return Printed(number, "frame", str(refusal) + (" " + reply[:-1].decode("latin-1") if reply else ""))
+
+
 def answer(number, kind, answered):
     """The line of an answer."""
     refusal, reply = answered
@@ -110,8 +129,9 @@ def samples(m, number, row):
             yield answer(number, "notice", answered)
 
 
-def call(m, number, first, rest):
+def call(m, number, line):
     """Makes the calls of a line and yields what is printed of them."""
+    first, *rest = words(line)
     if first == b"sample":
         bits, times = sample(rest)
         yield from samples(m, number, [bits] * times)
@@ -124,6 +144,8 @@ def call(m, number, first, rest):
         yield answer(number, "frame", m.spinel(frame(rest)))
     elif first == b"modbus":
         yield answer(number, "frame", m.modbus(frame(rest)))
+    elif first == b"text":
+        yield shown(number, m.spinel(text(line)))
     else:
         raise Wrong(UNKNOWN)
 
@@ -137,7 +159,7 @@ def play(script):
     for number, line in enumerate(script.split(b"\n"), 1):
         try:
             if words(line):
-                yield from call(m, number, words(line)[0], words(line)[1:])
+                yield from call(m, number, line)
         except Wrong as wrong:
             yield Printed(number, "wrong", "line %d: %s" % (number, wrong))
 
@@ -155,7 +177,7 @@ def main(paths):
             print("play.py: %s: %s" % (path, error.strerror), file=sys.stderr)
             return 2
         for printed in play(script):
-            print(printed.text)
+            sys.stdout.buffer.write(printed.text.encode("latin-1") + b"\n")
             if printed.kind == "wrong":
                 status = 1
     return status

@@ -1,4 +1,5 @@
-// The rack on a script of calls beyond the sources' examples: both ports, every refusal, permissions, resets, pulses, notices, thermostats.
+// The rack on a script of calls for each rule: both ports and both formats, every refusal, permissions, resets, pulses, notices,
+// thermostats, each request of 02 that has landed, and the text examples of the sources.
 // A program of its own, since the gate runs one on one input.
 #![tactic(auto)]
 
