@@ -55,6 +55,9 @@ pub fn requests() -> [Request; 4] {
 // A request that the module has and the plain Rust has not.
 fn is_other(modbus: bool, frame: &[u8]) -> bool {
     if !modbus {
+        if frame.starts_with(b"*B") {
+            return true; // text, which the plain Rust does not know
+        }
         let others = [
             0x10, 0x11, 0x1A, 0x1B, 0x20, 0x23, 0x25, 0x26, 0x30, 0x31, 0x33, 0x36, 0x38, 0x51, 0x62, 0x63, 0x6A, 0x6B, 0xE0,
             0xE3, 0xE4, 0xEE, 0xF0, 0xFE,
