@@ -92,6 +92,7 @@ pub fn low_word(v: u32) -> u16
 }
 
 // The number of sixteen bits, the lowest first. A loop of shifts: so the sample call, which lays a mask on the number, is quickest.
+#[inline(always)]
 pub fn bits_of(bs: [bool; 16]) -> u16
     ensures { result ≡ bits_number bs }
 {

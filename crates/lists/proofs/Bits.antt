@@ -1,14 +1,16 @@
 -- The number of some bits: its bound, parts of them by their number, and the first ones with the next. Assumes nothing.
 use Prim.Native.Nat.{ℕ, zero, suc, ◌+◌, ◌*◌, ◌^◌, ◌<◌, ◌≤◌, ◌/◌, ◌%◌}
-use native.Mathlib.Nat.{pow-suc, le_of_suc-le-suc, not-suc-le-zero, pow-succ', mod-lt, mod-one, mod-eq_of_lt, zero-mod, zero-div, div-one, div-add-mod, div-div-eq-div-mul, mul-add-mod_self_left}
+use native.Mathlib.Nat.{add-zero, pow-suc, le_of_suc-le-suc, not-suc-le-zero, pow-succ', mod-lt, mod-one, mod-eq_of_lt, zero-mod, zero-div, div-one, div-add-mod, div-div-eq-div-mul, mul-add-mod_self_left}
 use native.Mathlib.Omega.{arith}
 use mathlib.Core.Path.{◌≡◌, refl, sym, ap, ◌∙◌}
 use mathlib.Core.Bool.{Bool, true, false, cond}
 use mathlib.Core.List.{List, [], ◌∷◌, map}
 use lib.ListN.{length, get_or, drop, take}
 use mir.Val.{bool_byte}
-use Rattle.lists.specs.Numbers.{bits_number}
+use Rattle.lists.specs.Numbers.{bit_at, bits_number}
+use lib.Dec.{eqb}
 use lib.Pow.{pow_pos}
+use lib.Seq.{get_or-drop}
 use Rattle.lists.specs.Chunks.{chunks_of}
 
 pub byte_bit : (b : Bool) → bool_byte b ≡ cond b 1 0
@@ -59,6 +61,16 @@ bytes_of zero bs h = refl
 bytes_of (suc zero) bs h = rw (bits_take 8 bs)
 bytes_of (suc (suc zero)) bs h = rw (bits_take 8 bs, bits_take 8 (drop 8 bs), bits_drop 8 bs)
 bytes_of (suc (suc (suc c))) bs h = absurd (let z : ⊥ = omega arith in z)
+
+-- a bit of some bits' number is the one in its place
+lowest : (bs : List Bool) → eqb (bits_number bs % 2) 1 ≡ get_or bs 0 false
+unfolding bits_number
+lowest [] = refl
+lowest (true ∷ bs) = let one : (1 + 2 * bits_number bs) % 2 ≡ 1 = omega arith in rw one
+lowest (false ∷ bs) = let none : (0 + 2 * bits_number bs) % 2 ≡ 0 = omega arith in rw none
+
+pub bit_found : (n : ℕ) (bs : List Bool) (k : ℕ) → n ≡ bits_number bs → bit_at n k ≡ get_or bs k false
+bit_found n bs k e = rw (e, ← bits_drop k bs) (lowest (drop k bs) ∙ get_or-drop k bs 0 false ∙ ap (λ (i : ℕ). get_or bs i false) (add-zero k))
 
 -- Bits from the first on ------------------------------------------------------------------
 

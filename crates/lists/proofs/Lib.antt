@@ -7,6 +7,7 @@ pub mod NumberLaws
 pub mod Bits
 pub mod DataLaws
 pub mod Somes
+pub mod Stores
 pub mod Loops
 pub mod EntryLaws
 pub mod Chains
