@@ -36,7 +36,7 @@ pub record GroupTable : Type 0 where
   pub two_cleared : map (λ r. number (write_counters r (0 ∷ 0 ∷ []) (replicate 16 0))) (99 ∷ 114 ∷ 115 ∷ []) ≡ (9 ∷ 0 ∷ 9 ∷ [])
   -- four for a thermostat
   pub thermostat_read : map (λ r. number (read_thermostat [] r 4)) (596 ∷ 599 ∷ 600 ∷ 660 ∷ 664 ∷ []) ≡ (9 ∷ 9 ∷ 0 ∷ 0 ∷ 9 ∷ [])
-  pub thermostat_written : map (λ r. number (write_thermostat r (0 ∷ 0 ∷ 0 ∷ 0 ∷ []) [])) (596 ∷ 599 ∷ 600 ∷ 660 ∷ 664 ∷ []) ≡ (9 ∷ 9 ∷ 0 ∷ 0 ∷ 9 ∷ [])
+  pub thermostat_written : map (λ r. number (write_thermostat [] r (0 ∷ 0 ∷ 0 ∷ 0 ∷ []) [])) (596 ∷ 599 ∷ 600 ∷ 660 ∷ 664 ∷ []) ≡ (9 ∷ 9 ∷ 0 ∷ 0 ∷ 9 ∷ [])
   -- one register written
   pub permission_written : map (λ r. number (write_permission true r (255 ∷ []) (port 1 3 false))) (0 ∷ 1 ∷ []) ≡ (0 ∷ 9 ∷ [])
   pub port_written : map (λ r. number (write_port true r (6 ∷ []) fresh_module)) (0 ∷ 1 ∷ 2 ∷ 3 ∷ []) ≡ (9 ∷ 0 ∷ 0 ∷ 9 ∷ [])

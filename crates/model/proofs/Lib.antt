@@ -14,6 +14,7 @@ pub mod RegisterTable
 pub mod CoilTable
 pub mod GroupTable
 pub mod TextTable
+pub mod LinkTable
 pub mod UnreachedTable
 pub mod TallyTable
 pub mod ClaimTable
@@ -39,6 +40,7 @@ pub mod ModbusKeeps
 pub mod Conservation
 pub mod Alone
 pub mod PartsKept
+pub mod Linked
 pub mod Puts
 pub mod Permissions
 pub mod Refusing

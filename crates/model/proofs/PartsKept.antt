@@ -67,6 +67,8 @@ module _ (m : Module) where
       (cond_eq P i 0x33 _ _ (λ e. record { kept = rw e refl })
       (cond_eq P i 0x36 _ _ (λ e. record { kept = rw e refl })
       (cond_eq P i 0x38 _ _ (λ e. record { kept = rw e refl })
+      (cond_eq P i 0x40 _ _ (λ e. record { kept = rw e refl })
+      (cond_eq P i 0x41 _ _ (λ e. record { kept = rw e refl })
       (cond_eq P i 0x51 _ _ (λ e. record { kept = rw e refl })
       (cond_eq P i 0x60 _ _ (λ e. record { kept = rw e refl })
       (cond_eq P i 0x61 _ _ (λ e. record { kept = rw e refl })
@@ -80,7 +82,7 @@ module _ (m : Module) where
       (cond_eq P i 0xEE _ _ (λ e. record { kept = rw e refl })
       (cond_eq P i 0xF0 _ _ (λ e. record { kept = rw e refl })
       (cond_eq P i 0xFE _ _ (λ e. record { kept = rw e refl })
-      (record { kept = refl })))))))))))))))))))))))))))
+      (record { kept = refl })))))))))))))))))))))))))))))
     where
       P : Request Module → Type 0
       P = LeftAlone i

@@ -78,6 +78,8 @@ module _ (m : Module) where
       (cond_eq (FairBySpinel i) i 0x33 _ _ (λ e. rw e (plainly 0x33 _ refl refl refl refl))
       (cond_eq (FairBySpinel i) i 0x36 _ _ (λ e. rw e (plainly 0x36 _ refl refl refl refl))
       (cond_eq (FairBySpinel i) i 0x38 _ _ (λ e. rw e (plainly 0x38 _ refl refl refl refl))
+      (cond_eq (FairBySpinel i) i 0x40 _ _ (λ e. rw e (plainly 0x40 _ refl refl refl refl))
+      (cond_eq (FairBySpinel i) i 0x41 _ _ (λ e. rw e (plainly 0x41 _ refl refl refl refl))
       (cond_eq (FairBySpinel i) i 0x51 _ _ (λ e. rw e (plainly 0x51 _ refl refl refl refl))
       (cond_eq (FairBySpinel i) i 0x60 _ _ (λ e. rw e (plainly 0x60 _ refl refl refl refl))
       (cond_eq (FairBySpinel i) i 0x61 _ _ (λ e. rw e (plainly 0x61 _ refl refl refl refl))
@@ -91,7 +93,7 @@ module _ (m : Module) where
       (cond_eq (FairBySpinel i) i 0xEE _ _ (λ e. rw e (plainly 0xEE _ refl refl refl refl))
       (cond_eq (FairBySpinel i) i 0xF0 _ _ (λ e. rw e (plainly 0xF0 _ refl refl refl refl))
       (cond_eq (FairBySpinel i) i 0xFE _ _ (λ e. rw e (plainly 0xFE _ refl refl refl refl))
-      (record { fair = λ h. absurd (true≢false h) })))))))))))))))))))))))))))
+      (record { fair = λ h. absurd (true≢false h) })))))))))))))))))))))))))))))
 
   -- text, by its code
   code_fair : (c : TextCode) (q : TextRequest) → let n = (asked_by c q (used_up text_wire m)).after in Fair n.spinel.permitted (gives_by (Some c)) (resets_by (Some c)) n

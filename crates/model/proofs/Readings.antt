@@ -134,14 +134,18 @@ pub record Rows : Type 0 where
   pub binary_to_25 : is_broadcast (asked_at 0x25 0x20 (0x81 ∷ [])).act ≡ false
   pub to_all_modbus : is_broadcast (sent_to 0x00 0x05 (0x00 ∷ 0x00 ∷ 0xFF ∷ 0x00 ∷ [])).act ≡ true
   pub not_to_ff : is_broadcast (sent_to 0xFF 0x05 (0x00 ∷ 0x00 ∷ 0xFF ∷ 0x00 ∷ [])).act ≡ false
-  pub thirteen : greatest ≡ 13
+  pub fourteen : greatest ≡ 14
   pub ack13 : ack_of 13 ≡ 0x03
   pub exception13 : exception_of 13 ≡ 0x03
+  pub ack14 : ack_of 14 ≡ 0x03
+  pub exception14 : exception_of 14 ≡ 0x04
   -- a refusal is added under its own number alone, and checks stand in their order
   pub refuses_one : map (refuse 9 true (telling [])).holds (8 ∷ 9 ∷ 10 ∷ []) ≡ (false ∷ true ∷ false ∷ [])
   pub ten_first : refusal_of (refuse 13 true (refuse 10 true (telling []))) ≡ 10
   pub then_thirteen : refusal_of (refuse 11 true (refuse 13 true (telling []))) ≡ 13
-  pub request_order : map (λ (c : Check). c.number) (request_checks (telling [])) ≡ (7 ∷ 8 ∷ 9 ∷ 10 ∷ 13 ∷ 11 ∷ 12 ∷ [])
+  pub then_eleven : refusal_of (refuse 14 true (refuse 11 true (telling []))) ≡ 11
+  pub then_fourteen : refusal_of (refuse 12 true (refuse 14 true (telling []))) ≡ 14
+  pub request_order : map (λ (c : Check). c.number) (request_checks (telling [])) ≡ (7 ∷ 8 ∷ 9 ∷ 10 ∷ 13 ∷ 11 ∷ 14 ∷ 12 ∷ [])
   pub frame_order : map (λ (c : Check). c.number) (frame_checks spinel_wire true 0x31 []) ≡ (2 ∷ 3 ∷ 4 ∷ 5 ∷ 6 ∷ [])
   -- the tally adds what all deductions of an input name, and does not rest on 13; an amount has four bytes, the high one first
   pub amounts_add : amounts 1 (1 ∷ 0 ∷ 0 ∷ 0 ∷ 2 ∷ 2 ∷ 0 ∷ 0 ∷ 0 ∷ 9 ∷ 1 ∷ 0 ∷ 0 ∷ 1 ∷ 3 ∷ []) ≡ 261
@@ -207,12 +211,16 @@ rows = record {
   binary_to_25 = refl;
   to_all_modbus = refl;
   not_to_ff = refl;
-  thirteen = refl;
+  fourteen = refl;
   ack13 = refl;
   exception13 = refl;
+  ack14 = refl;
+  exception14 = refl;
   refuses_one = refl;
   ten_first = refl;
   then_thirteen = refl;
+  then_eleven = refl;
+  then_fourteen = refl;
   request_order = refl;
   frame_order = refl;
   amounts_add = refl;

@@ -107,7 +107,7 @@ request_numbered q = omega arith
 
 -- Calls ----------------------------------------------------------------------------------
 
--- an answer in the state m to a call with the conditions cs; a refusal of 7 to 13 leaves `used` and is answered by `refusing`
+-- an answer in the state m to a call with the conditions cs; a refusal of 7 to 14 leaves `used` and is answered by `refusing`
 record Answers (m used : Module) (broadcast : Bool) (refusing : ℕ → List ℕ) (cs : List Check) (o : Out) : Type 0 where
   refusal : o.refusal ≡ first_of cs
   early : 1 ≤ o.refusal → o.refusal ≤ 6 → (o.after ≡ m) × (o.reply ≡ [])

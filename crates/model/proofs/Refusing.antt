@@ -2,7 +2,7 @@
 use Rattle.std.proofs.Common.{◌≡◌, refl, ℕ, suc, Bool, true, false, arith}
 use mathlib.Core.Bool.{cond}
 use Rattle.model.specs.declared.Refusal.{Refusal}
-use Rattle.model.specs.declared.Refusal.TheVariants.{ShortBuffer, FrameLength, Shape, Checksum, Address, Broadcast, Unlisted, DataLength, Range, Permission, Value, Held, Repeated}
+use Rattle.model.specs.declared.Refusal.TheVariants.{ShortBuffer, FrameLength, Shape, Checksum, Address, Broadcast, Unlisted, DataLength, Range, Permission, Value, Held, Repeated, Clash}
 use Rattle.model.specs.Numbers.{number_of}
 
 -- no refusal has the number 0
@@ -20,6 +20,7 @@ some_number Permission e = omega arith
 some_number Value e = omega arith
 some_number Held e = omega arith
 some_number Repeated e = omega arith
+some_number Clash e = omega arith
 
 -- a first condition that refuses by r decides, whatever comes after it
 pub stops : (b : Bool) (n rest : ℕ) (r : Refusal) → number_of r ≡ cond b n 0 → number_of r ≡ cond b n rest

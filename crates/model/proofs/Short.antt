@@ -30,6 +30,7 @@ use Rattle.model.specs.Counters.{most_items, items_of, every_number, listed, lis
 use Rattle.model.specs.Temperature.{set_thermostats, reading_shown, read_temperature, group_shown, read_thermostats}
 use Rattle.model.specs.SumTest.{set_sum_test, read_sum_test}
 use Rattle.model.specs.Outputs.{set_outputs, set_pulses, pulse_outputs, act_on, start_presets, set_presets, states_shown, read_states, pulse_shown, preset_shown, mode_byte}
+use Rattle.model.specs.Links.{set_links, link_shown}
 use Rattle.model.specs.Registers.{port_group, counter_group, mode_group, output_group, thermostat_group, reading_group, in_group, packed, read_bits, read_words, read_thermostat, port_words, counter_word, output_word, thermostat_words, write_coils}
 use Rattle.model.specs.Modbus.{start_of, second_of, quantity_wrong, no_group, registers_read, registers_written, coil_written, register_written, coils_written, several_written, modbus_asked}
 use Rattle.model.specs.Spinel.{SpinelRequest, spinel_asked}
@@ -108,7 +109,7 @@ thermostats_short d hs =
 -- Spinel ---------------------------------------------------------------------------------
 
 pub asked_short : (q : SpinelRequest) (m : Module) → Short 128 (spinel_asked q m)
-unfolding spinel_asked set_notice read_notice set_thermostats set_outputs set_pulses pulse_outputs act_on start_presets set_presets read_states set_sampling read_sampling set_modes_list set_modes set_port reset_module give_permission read_port set_sum_test read_sum_test pulse_shown preset_shown mode_byte mode_shown bytes
+unfolding spinel_asked set_notice read_notice set_thermostats set_outputs set_pulses pulse_outputs act_on start_presets set_presets read_states set_sampling read_sampling set_modes_list set_modes set_port reset_module give_permission read_port set_sum_test read_sum_test pulse_shown preset_shown mode_byte mode_shown set_links link_shown bytes
 asked_short q m =
     cond_eq S i 0x10 _ _ (λ _. omega arith)
     (cond_eq S i 0x11 _ _ (λ _. omega arith)
@@ -123,6 +124,8 @@ asked_short q m =
     (cond_eq S i 0x33 _ _ (λ _. record { bound = (list_short 2 128 _ (λ n. omega arith) (omega arith) d).bound })
     (cond_eq S i 0x36 _ _ (λ _. record { bound = (list_short 2 128 _ (λ n. omega arith) (omega arith) d).bound })
     (cond_eq S i 0x38 _ _ (λ _. record { bound = (list_short 1 128 _ (λ n. omega arith) (omega arith) d).bound })
+    (cond_eq S i 0x40 _ _ (λ _. omega arith)
+    (cond_eq S i 0x41 _ _ (λ _. record { bound = (list_short 2 128 _ (λ n. omega arith) (omega arith) d).bound })
     (cond_eq S i 0x51 _ _ (λ _. record { bound = (reading_short d m.reading).bound })
     (cond_eq S i 0x60 _ _ (λ _. record { bound = (counters_short d m.inputs.counters).bound })
     (cond_eq S i 0x61 _ _ (λ _. record { bound = (deduct_short d m.inputs.counters).bound })
@@ -136,7 +139,7 @@ asked_short q m =
     (cond_eq S i 0xEE _ _ (λ _. omega arith)
     (cond_eq S i 0xF0 _ _ (λ _. omega arith)
     (cond_eq S i 0xFE _ _ (λ _. omega arith)
-    (omega arith))))))))))))))))))))))))))
+    (omega arith))))))))))))))))))))))))))))
   where
     S : Request Module → Type 0
     S = Short 128

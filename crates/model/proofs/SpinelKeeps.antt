@@ -118,6 +118,8 @@ module _ (i : ℕ) (small : i < 16) (m : Module) (t : Tally) (v : Inv i (countin
       (cond_eq P c 0x33 _ _ (λ e. rw e (still 0x33 _ refl refl refl refl refl refl refl))
       (cond_eq P c 0x36 _ _ (λ e. rw e (still 0x36 _ refl refl refl refl refl refl refl))
       (cond_eq P c 0x38 _ _ (λ e. rw e (still 0x38 _ refl refl refl refl refl refl refl))
+      (cond_eq P c 0x40 _ _ (λ e. rw e (still 0x40 _ refl refl refl refl refl refl refl))
+      (cond_eq P c 0x41 _ _ (λ e. rw e (still 0x41 _ refl refl refl refl refl refl refl))
       (cond_eq P c 0x51 _ _ (λ e. rw e (still 0x51 _ refl refl refl refl refl refl refl))
       (cond_eq P c 0x60 _ _ (λ e. rw e (read_good s (tail e)))
       (cond_eq P c 0x61 _ _ (λ e. rw e deduct_good)
@@ -131,7 +133,7 @@ module _ (i : ℕ) (small : i < 16) (m : Module) (t : Tally) (v : Inv i (countin
       (cond_eq P c 0xEE _ _ (λ e. rw e (still 0xEE _ refl refl refl refl refl refl refl))
       (cond_eq P c 0xF0 _ _ (λ e. rw e (still 0xF0 _ refl refl refl refl refl refl refl))
       (cond_eq P c 0xFE _ _ (λ e. rw e (still 0xFE _ refl refl refl refl refl refl refl))
-      (unlisted_good c)))))))))))))))))))))))))))
+      (unlisted_good c)))))))))))))))))))))))))))))
     where
       P : Request Module → Type 0
       P r = Good i (by c) r

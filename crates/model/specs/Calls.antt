@@ -6,6 +6,7 @@ use Rattle.model.specs.declared.Answer.{Answer}
 use Rattle.model.specs.State.{with_inputs, with_outputs}
 use Rattle.model.specs.Samples.{inputs_sampled, edges}
 use Rattle.model.specs.Outputs.{pulsed}
+use Rattle.model.specs.Links.{outputs_linked}
 use Rattle.model.specs.Notice.{notice_written}
 use Rattle.model.specs.Temperature.{reading_of, taken}
 use Rattle.model.specs.Refusals.{Out, silent, buffer_short}
@@ -15,13 +16,14 @@ use Rattle.model.specs.Text.{is_text, text_wire}
 use Rattle.model.specs.Modbus.{modbus_wire}
 use Rattle.model.specs.Call.{Act, Call, sample, temperature, spinel, modbus}
 
--- one sample (01, Samples and edges): debounce, then counting, then one step of every pulse; the notice comes last and sees the new inputs
+-- one sample (01, Samples and edges): debounce, then counting, then one step of every pulse, then links (E8); the notice comes last and sees
+-- the new inputs
 unfoldable pub sampled : ℕ → Module → Out
 sampled bits m =
     let x = inputs_sampled bits m.settings m.inputs in
     record {
       refusal = 0;
-      after = with_outputs (with_inputs m x) (map pulsed m.outputs);
+      after = with_outputs (with_inputs m x) (outputs_linked m.settings.links m.inputs.lines x.lines (map pulsed m.outputs));
       reply = notice_written m.spinel.address m.settings.notice (edges m.inputs.lines x.lines) x;
     }
 

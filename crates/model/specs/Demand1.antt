@@ -24,11 +24,11 @@ check n b = record { number = n; holds = b }
 
 -- the greatest number
 abbrev pub greatest : ℕ
-greatest = 13
+greatest = 14
 
--- 7 to 13: their order is said here once more, so that the claim fixes it
+-- 7 to 14: their order is said here once more, so that the claim fixes it
 abbrev pub claimed_order : List ℕ
-claimed_order = 7 ∷ 8 ∷ 9 ∷ 10 ∷ 13 ∷ 11 ∷ 12 ∷ []
+claimed_order = 7 ∷ 8 ∷ 9 ∷ 10 ∷ 13 ∷ 11 ∷ 14 ∷ 12 ∷ []
 
 unfoldable pub request_checks : {P : Type 0} → Request P → List Check
 request_checks q = map (λ n. check n (q.holds n)) claimed_order
@@ -94,7 +94,7 @@ is_broadcast (temperature good tenths) = false
 is_broadcast (spinel f) = cond (is_text f) (eqb (text_to f) text_broadcast) (eqb (spinel_to f) spinel_broadcast)
 is_broadcast (modbus f) = eqb (modbus_to f) modbus_broadcast
 
--- what a call refused by n, 7 to 13, is answered
+-- what a call refused by n, 7 to 14, is answered
 unfoldable pub refusal_reply : ℕ → Act → Module → List ℕ
 refusal_reply n (sample bits) m = []
 refusal_reply n (temperature good tenths) m = []
@@ -112,7 +112,7 @@ pub record Refusals (m : Module) (c : Call) : Type 0 where
   pub most : (step m c).refusal ≤ greatest
   -- 1 to 6: the state is the state before, the reply's length 0
   pub early : 1 ≤ (step m c).refusal → (step m c).refusal ≤ 6 → ((step m c).after ≡ m) × ((step m c).reply ≡ [])
-  -- 7 to 13: it differs at most in that port's permission, which has ended
+  -- 7 to 14: it differs at most in that port's permission, which has ended
   pub late : 7 ≤ (step m c).refusal → (step m c).after ≡ permission_ended c.act m
   -- and the reply is that number's ACK or exception, without data
   pub told : 7 ≤ (step m c).refusal → (step m c).reply ≡ refusal_reply (step m c).refusal c.act m

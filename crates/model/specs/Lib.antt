@@ -7,6 +7,7 @@ pub mod Wire
 pub mod Counters
 pub mod Temperature
 pub mod Outputs
+pub mod Links
 pub mod Text
 pub mod Notice
 pub mod SumTest
@@ -19,5 +20,6 @@ pub mod Demand1
 pub mod Tally
 pub mod Cycles
 pub mod Alone
+pub mod Linked
 pub mod Parts
 pub mod Numbers

@@ -64,7 +64,7 @@ registers_written permitted single r vs m =
     (cond (in_group deduction_group r) (on_part (with_counters m) (write_deductions r vs m.inputs.counters))
     (cond (in_group mode_group r) (on_part (with_modes m) (write_modes r vs m.settings.modes))
     (cond (in_group output_group r) (on_part (with_outputs m) (write_pulse m.reading m.settings.thermostats r vs m.outputs))
-    (cond (in_group thermostat_group r) (on_part (with_thermostats m) (write_thermostat r vs m.settings.thermostats))
+    (cond (in_group thermostat_group r) (on_part (with_thermostats m) (write_thermostat m.settings.links r vs m.settings.thermostats))
     (no_group m)))))))
 
 -- Functions ---------------------------------------------------------------------------------

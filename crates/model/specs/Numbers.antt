@@ -1,7 +1,7 @@
 -- The numbers of the refusals, and the one that a result tells.
 use Rattle.std.specs.Prelude.{ℕ, Result, Ok, Err, Option, Some, None}
 use Rattle.model.specs.declared.Refusal.{Refusal}
-use Rattle.model.specs.declared.Refusal.TheVariants.{ShortBuffer, FrameLength, Shape, Checksum, Address, Broadcast, Unlisted, DataLength, Range, Permission, Value, Held, Repeated}
+use Rattle.model.specs.declared.Refusal.TheVariants.{ShortBuffer, FrameLength, Shape, Checksum, Address, Broadcast, Unlisted, DataLength, Range, Permission, Value, Held, Repeated, Clash}
 
 abbrev pub number_of : Refusal → ℕ
 number_of ShortBuffer = 1
@@ -17,6 +17,7 @@ number_of Permission = 10
 number_of Value = 11
 number_of Held = 12
 number_of Repeated = 13
+number_of Clash = 14
 
 -- what refuses, or 0: in a result, and where nothing else is told
 abbrev pub refused_by : {A : Type 0} → Result A Refusal → ℕ

@@ -8,7 +8,7 @@ use Rattle.model.specs.declared.Reading.TheVariants.{Fault}
 use Rattle.model.specs.declared.Module.{Module}
 use Rattle.model.specs.declared.TextCode.{TextCode}
 use Rattle.model.specs.declared.TextCode.TheVariants.{ReadInput, ReadOutput, SetOutput, PulseOutput, ReadTemperature, SetNotice, ReadNotice, GivePermission, SetAddress, SetSpeed}
-use Rattle.model.specs.State.{line, notice, turned_off, port, with_modes, with_counters, with_sampling, with_inputs, with_outputs, with_presets, with_thermostats, with_reading, with_notice, with_sum_tested, with_spinel, with_modbus}
+use Rattle.model.specs.State.{line, notice, turned_off, port, with_modes, with_counters, with_sampling, with_inputs, with_outputs, with_presets, with_links, with_thermostats, with_reading, with_notice, with_sum_tested, with_spinel, with_modbus}
 use Rattle.model.specs.Frames.{instruction_of, function_of, modbus_body}
 use Rattle.model.specs.Modbus.{start_of}
 use Rattle.model.specs.Text.{is_text, characters, typed}
@@ -42,6 +42,9 @@ without_outputs m = with_outputs m []
 
 abbrev pub without_presets : Module → Module
 without_presets m = with_presets m []
+
+abbrev pub without_links : Module → Module
+without_links m = with_links m []
 
 abbrev pub without_thermostats : Module → Module
 without_thermostats m = with_thermostats m []
@@ -100,6 +103,7 @@ spinel_leaves i m =
     (cond (eqb i 0x23) (without_outputs m)
     (cond (eqb i 0x25) (without_outputs m)
     (cond (eqb i 0x26) (without_presets m)
+    (cond (eqb i 0x40) (without_links m)
     (cond (eqb i 0x60) (without_counters m)
     (cond (eqb i 0x61) (without_counters m)
     (cond (eqb i 0x62) (without_sampling m)
@@ -107,7 +111,7 @@ spinel_leaves i m =
     (cond (eqb i 0xE0) (without_spinel_settings (without_running m))
     (cond (eqb i 0xE3) (without_running m)
     (cond (eqb i 0xEE) (without_sum_test m)
-    m))))))))))))
+    m)))))))))))))
 
 -- by a text frame's code (E2); IS leaves the signature, AS sets the address alone, SS the speed
 unfoldable pub text_leaves : Option TextCode → Module → Module

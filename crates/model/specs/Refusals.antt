@@ -1,4 +1,4 @@
--- 01 and of 02 E1, E2 and E5, the refusals in the order of their checks: each condition by its name. Those of text alone stand in `Text`.
+-- 01 and of 02 E1, E2, E5 and E8, the refusals in the order of their checks: each condition by its name. Those of text alone stand in `Text`.
 use Rattle.std.specs.Prelude.{ℕ, zero, suc, ◌-◌, ◌/◌, ◌%◌, Bool, true, false, cond, not, ◌&&◌, ◌||◌, List, [], ◌∷◌, length, get_or, take, ltb, eqb}
 use Rattle.lists.specs.Tests.{within}
 use Rattle.model.specs.declared.Module.{Module}
@@ -47,7 +47,7 @@ spinel_broadcast_wrong to i = eqb to spinel_broadcast && not (eqb i 0x20 || (eqb
 unfoldable pub modbus_broadcast_wrong : ℕ → ℕ → Bool
 modbus_broadcast_wrong to fn = eqb to modbus_broadcast && not (eqb fn 0x05 || eqb fn 0x0F)
 
--- 7 to 13, in the order in which they are looked at:
+-- 7 to 14, in the order in which they are looked at:
 -- 7. a code that has no meaning
 -- 8. more or less data than the code takes, in text other characters; a byte count that does not fit, or a quantity that the function does
 -- not take
@@ -55,9 +55,10 @@ modbus_broadcast_wrong to fn = eqb to modbus_broadcast && not (eqb fn 0x05 || eq
 -- 10. configuring while the port is not permitted to; also E4H and E0H sent to the universal address, and E, AS and SS typed to it
 -- 13. a list of deductions, of 61H, with the same number twice
 -- 11. a number, mode, time or other value that its place does not take, or more to deduct than was counted
+-- 14. a link for an output with an active thermostat, or an active thermostat for one with a link (E8)
 -- 12. an output that its thermostat does not let go of now
 unfoldable pub checking_order : List ℕ
-checking_order = 7 ∷ 8 ∷ 9 ∷ 10 ∷ 13 ∷ 11 ∷ 12 ∷ []
+checking_order = 7 ∷ 8 ∷ 9 ∷ 10 ∷ 13 ∷ 11 ∷ 14 ∷ 12 ∷ []
 
 -- A request that has passed 1 to 6, on the part P of the state that it may change: which of these hold, and what it comes to where none does.
 pub record Request (P : Type 0) : Type 0 where
@@ -138,7 +139,7 @@ exception_of n =
     cond (eqb n 7) 0x01
     (cond (eqb n 9) 0x02
     (cond (eqb n 10) 0x04
-    (cond (eqb n 12) 0x04 0x03)))
+    (cond (eqb n 12 || eqb n 14) 0x04 0x03)))
 
 -- a call's answer: the refusal's number or 0, the state after, the reply's bytes
 pub record Out : Type 0 where

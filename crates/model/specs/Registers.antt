@@ -8,16 +8,17 @@ use Rattle.lists.specs.declared.Entry.{Entry}
 use Rattle.lists.specs.Entries.{entry, numbered}
 use Rattle.model.specs.declared.Group.{Group}
 use Rattle.model.specs.declared.Output.{Output}
+use Rattle.model.specs.declared.Link.{Link}
 use Rattle.model.specs.declared.Thermostat.{Thermostat}
 use Rattle.model.specs.declared.Reading.{Reading}
 use Rattle.model.specs.declared.Port.{Port}
 use Rattle.model.specs.declared.Module.{Module}
-use Rattle.model.specs.State.{half_seconds, thermostat, fresh_thermostat, port, permit, with_modbus}
+use Rattle.model.specs.State.{half_seconds, thermostat, fresh_link, fresh_thermostat, port, permit, with_modbus}
 use Rattle.model.specs.Samples.{places}
 use Rattle.model.specs.Refusals.{Request, accepting, telling, refuse}
 use Rattle.model.specs.Counters.{most_items, reset, deduct, set_modes}
 use Rattle.model.specs.Outputs.{set_output, act_on, pulse_outputs, remaining}
-use Rattle.model.specs.Temperature.{signed_of, pattern_of, thermostat_fits}
+use Rattle.model.specs.Temperature.{signed_of, pattern_of, thermostat_fits, clash}
 
 -- Groups -------------------------------------------------------------------------------
 
@@ -178,11 +179,12 @@ write_pulse r hs a vs os =
 unfoldable pub words_thermostat : List ℕ → Thermostat
 words_thermostat vs = thermostat (get_or vs 0 0) (signed_of (get_or vs 1 0)) (signed_of (get_or vs 2 0)) (get_or vs 3 0 / 256) (get_or vs 3 0 % 256)
 
-unfoldable pub write_thermostat : ℕ → List ℕ → List Thermostat → Request (List Thermostat)
-write_thermostat r vs hs =
+unfoldable pub write_thermostat : List Link → ℕ → List ℕ → List Thermostat → Request (List Thermostat)
+write_thermostat ls r vs hs =
     refuse 9 (no_thermostat r (length vs))
     (refuse 11 (not (leb (get_or vs 0 0) 0xFF && thermostat_fits (words_thermostat vs)))
-    (accepting (set hs (place_of r) (words_thermostat vs)) []))
+    (refuse 14 (clash (get_or ls (place_of r) fresh_link) (words_thermostat vs))
+    (accepting (set hs (place_of r) (words_thermostat vs)) [])))
 
 -- coils: bit j of the bytes is for output a + 1 + j; 05 has a single bit --------------------------------
 

@@ -1,13 +1,14 @@
 -- A binary Spinel frame: what its instruction asks for, and its wire.
 use Rattle.std.specs.Prelude.{ℕ, Bool, cond, List, eqb}
 use Rattle.model.specs.declared.Module.{Module}
-use Rattle.model.specs.State.{with_outputs, with_spinel, with_counters, with_modes, with_sampling, with_presets, with_thermostats, with_notice, with_sum_tested}
+use Rattle.model.specs.State.{with_outputs, with_spinel, with_counters, with_modes, with_sampling, with_presets, with_links, with_thermostats, with_notice, with_sum_tested}
 use Rattle.model.specs.Samples.{input_states}
 use Rattle.model.specs.Frames.{spinel_to, signature_of, instruction_of, spinel_data, universal, spinel_broadcast, spinel_reply}
 use Rattle.model.specs.Refusals.{Request, not_listed, on_part, reading, ack_of, shape_wrong, sum_wrong, spinel_address_wrong, spinel_broadcast_wrong}
 use Rattle.model.specs.Wire.{Wire}
 use Rattle.model.specs.Counters.{list_read, read_counters, deduct_counters, set_modes_list, mode_shown, set_sampling, read_sampling, give_permission, set_port, read_port, reset_module}
 use Rattle.model.specs.Outputs.{set_outputs, set_pulses, set_presets, start_presets, pulse_shown, preset_shown, mode_byte, output_states, read_states}
+use Rattle.model.specs.Links.{set_links, link_shown}
 use Rattle.model.specs.Notice.{set_notice, read_notice}
 use Rattle.model.specs.SumTest.{set_sum_test, read_sum_test}
 use Rattle.model.specs.Temperature.{read_temperature, set_thermostats, read_thermostats}
@@ -28,7 +29,7 @@ spinel_asked q m =
     let s = m.settings in
     cond (eqb i 0x10) (on_part (with_notice m) (set_notice q.signature d s.notice))
     (cond (eqb i 0x11) (reading m (read_notice d s.notice))
-    (cond (eqb i 0x1A) (on_part (with_thermostats m) (set_thermostats d s.thermostats))
+    (cond (eqb i 0x1A) (on_part (with_thermostats m) (set_thermostats s.links d s.thermostats))
     (cond (eqb i 0x1B) (reading m (read_thermostats d s.thermostats))
     (cond (eqb i 0x20) (on_part (with_outputs m) (set_outputs m.reading s.thermostats d m.outputs))
     (cond (eqb i 0x23) (on_part (with_outputs m) (set_pulses m.reading s.thermostats d m.outputs))
@@ -39,6 +40,8 @@ spinel_asked q m =
     (cond (eqb i 0x33) (reading m (list_read (pulse_shown m.outputs) d))
     (cond (eqb i 0x36) (reading m (list_read (preset_shown s.presets) d))
     (cond (eqb i 0x38) (reading m (list_read (mode_byte s.thermostats s.presets) d))
+    (cond (eqb i 0x40) (on_part (with_links m) (set_links s.thermostats d s.links))
+    (cond (eqb i 0x41) (reading m (list_read (link_shown s.links) d))
     (cond (eqb i 0x51) (reading m (read_temperature d m.reading))
     (cond (eqb i 0x60) (on_part (with_counters m) (read_counters d m.inputs.counters))
     (cond (eqb i 0x61) (on_part (with_counters m) (deduct_counters d m.inputs.counters))
@@ -52,7 +55,7 @@ spinel_asked q m =
     (cond (eqb i 0xEE) (on_part (with_sum_tested m) (set_sum_test q.permitted d))
     (cond (eqb i 0xF0) (reading m (read_port d m.spinel))
     (cond (eqb i 0xFE) (reading m (read_sum_test d s.sum_tested))
-    (not_listed m))))))))))))))))))))))))))
+    (not_listed m))))))))))))))))))))))))))))
 
 unfoldable pub spinel_request : Bool → List ℕ → SpinelRequest
 spinel_request permitted f = record { permitted = permitted; to_universal = eqb (spinel_to f) universal; signature = signature_of f; instruction = instruction_of f; content = spinel_data f }

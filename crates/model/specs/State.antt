@@ -6,6 +6,7 @@ use Rattle.model.specs.declared.Output.{Output}
 use Rattle.model.specs.declared.HalfSeconds.{HalfSeconds}
 use Rattle.model.specs.declared.Seconds.{Seconds}
 use Rattle.model.specs.declared.Preset.{Preset}
+use Rattle.model.specs.declared.Link.{Link}
 use Rattle.model.specs.declared.Thermostat.{Thermostat}
 use Rattle.model.specs.declared.Reading.{Reading}
 use Rattle.model.specs.declared.Reading.TheVariants.{Fault}
@@ -29,6 +30,9 @@ seconds n = record { 0 = n }
 abbrev pub preset : ℕ → ℕ → Preset
 preset kind time = record { kind = kind; time = half_seconds time }
 
+abbrev pub link : ℕ → ℕ → Link
+link input action = record { input = input; action = action }
+
 abbrev pub thermostat : ℕ → ℤ → ℤ → ℕ → ℕ → Thermostat
 thermostat flags x y time err = record { flags = flags; tempx = x; tempy = y; time = seconds time; err = err }
 
@@ -48,6 +52,10 @@ fresh_output = output false 0
 abbrev pub fresh_preset : Preset
 fresh_preset = preset 0 0
 
+-- E8: no link
+abbrev pub fresh_link : Link
+fresh_link = link 0 0
+
 -- 01, Temperature: all its bytes 0, and so inactive
 abbrev pub fresh_thermostat : Thermostat
 fresh_thermostat = thermostat 0 (pos 0) (pos 0) 0 0
@@ -62,6 +70,7 @@ fresh_module = record {
     modes = replicate 16 0;
     sampling = 20;
     presets = replicate 16 fresh_preset;
+    links = replicate 16 fresh_link;
     thermostats = replicate 16 fresh_thermostat;
     notice = notice 0 0 0;
     sum_tested = true;
@@ -99,22 +108,29 @@ abbrev pub with_counters : Module → List ℕ → Module
 with_counters m cs = with_inputs m (record { lines = m.inputs.lines; counters = cs })
 
 abbrev pub with_modes : Module → List ℕ → Module
-with_modes m ms = with_settings m (record { modes = ms; sampling = m.settings.sampling; presets = m.settings.presets; thermostats = m.settings.thermostats; notice = m.settings.notice; sum_tested = m.settings.sum_tested })
+with_modes m ms = with_settings m (record { modes = ms; sampling = m.settings.sampling; presets = m.settings.presets; links = m.settings.links; thermostats = m.settings.thermostats; notice = m.settings.notice; sum_tested = m.settings.sum_tested })
 
 abbrev pub with_sampling : Module → ℕ → Module
-with_sampling m n = with_settings m (record { modes = m.settings.modes; sampling = n; presets = m.settings.presets; thermostats = m.settings.thermostats; notice = m.settings.notice; sum_tested = m.settings.sum_tested })
+with_sampling m n = with_settings m (record { modes = m.settings.modes; sampling = n; presets = m.settings.presets; links = m.settings.links; thermostats = m.settings.thermostats; notice = m.settings.notice; sum_tested = m.settings.sum_tested })
 
 abbrev pub with_presets : Module → List Preset → Module
-with_presets m ps = with_settings m (record { modes = m.settings.modes; sampling = m.settings.sampling; presets = ps; thermostats = m.settings.thermostats; notice = m.settings.notice; sum_tested = m.settings.sum_tested })
+with_presets m ps = with_settings m (record { modes = m.settings.modes; sampling = m.settings.sampling; presets = ps; links = m.settings.links; thermostats = m.settings.thermostats; notice = m.settings.notice; sum_tested = m.settings.sum_tested })
+
+abbrev pub with_links : Module → List Link → Module
+with_links m ls = with_settings m (record { modes = m.settings.modes; sampling = m.settings.sampling; presets = m.settings.presets; links = ls; thermostats = m.settings.thermostats; notice = m.settings.notice; sum_tested = m.settings.sum_tested })
 
 abbrev pub with_thermostats : Module → List Thermostat → Module
-with_thermostats m hs = with_settings m (record { modes = m.settings.modes; sampling = m.settings.sampling; presets = m.settings.presets; thermostats = hs; notice = m.settings.notice; sum_tested = m.settings.sum_tested })
+with_thermostats m hs = with_settings m (record { modes = m.settings.modes; sampling = m.settings.sampling; presets = m.settings.presets; links = m.settings.links; thermostats = hs; notice = m.settings.notice; sum_tested = m.settings.sum_tested })
 
 abbrev pub with_notice : Module → Notice → Module
-with_notice m n = with_settings m (record { modes = m.settings.modes; sampling = m.settings.sampling; presets = m.settings.presets; thermostats = m.settings.thermostats; notice = n; sum_tested = m.settings.sum_tested })
+with_notice m n = with_settings m (record { modes = m.settings.modes; sampling = m.settings.sampling; presets = m.settings.presets; links = m.settings.links; thermostats = m.settings.thermostats; notice = n; sum_tested = m.settings.sum_tested })
 
 abbrev pub with_sum_tested : Module → Bool → Module
-with_sum_tested m b = with_settings m (record { modes = m.settings.modes; sampling = m.settings.sampling; presets = m.settings.presets; thermostats = m.settings.thermostats; notice = m.settings.notice; sum_tested = b })
+with_sum_tested m b = with_settings m (record { modes = m.settings.modes; sampling = m.settings.sampling; presets = m.settings.presets; links = m.settings.links; thermostats = m.settings.thermostats; notice = m.settings.notice; sum_tested = b })
+
+-- is there a link? Action 0 is none
+abbrev pub has_link : Link → Bool
+has_link l = not (eqb l.action 0)
 
 -- on: any format byte but 0; 10H stores 61H or 0, IS 42H or 0 (E2)
 abbrev pub is_on : Notice → Bool

@@ -4,16 +4,17 @@ use mathlib.Core.List.{List, [], ◌∷◌, ◌++◌, foldl, flat_map}
 use Rattle.std.specs.Int.Signed.{lt_z, le_z}
 use Rattle.std.specs.Float.{binary32}
 use Rattle.std.specs.Float.Ieee.{div, of_int, of_bits, to_bits, is_nan}
-use Rattle.lists.specs.Tests.{all}
+use Rattle.lists.specs.Tests.{all, any}
 use Rattle.lists.specs.Mapi.{mapi}
 use Rattle.lists.specs.Numbers.{word_at, bytes}
 use Rattle.lists.specs.Chunks.{chunks}
 use Rattle.model.specs.declared.Output.{Output}
+use Rattle.model.specs.declared.Link.{Link}
 use Rattle.model.specs.declared.Thermostat.{Thermostat}
 use Rattle.model.specs.declared.Reading.{Reading}
 use Rattle.model.specs.declared.Reading.TheVariants.{Valid, Fault}
 use Rattle.model.specs.declared.Module.{Module}
-use Rattle.model.specs.State.{output, thermostat, fresh_thermostat, with_reading}
+use Rattle.model.specs.State.{output, thermostat, fresh_link, fresh_thermostat, has_link, with_reading}
 use Rattle.model.specs.Refusals.{Request, accepting, telling, refuse}
 use Rattle.model.specs.Counters.{is_number, items_of, most_items, every_number}
 use Rattle.model.specs.Times.{second_samples}
@@ -106,9 +107,21 @@ group_fits c = is_number (get_or c 0 0) && thermostat_fits (group_thermostat c)
 unfoldable pub set_group : List Thermostat → List ℕ → List Thermostat
 set_group hs c = set hs (get_or c 0 0 - 1) (group_thermostat c)
 
+-- 14 (E8): an output has a link or an active thermostat, and not both
+abbrev pub clash : Link → Thermostat → Bool
+clash l h = has_link l && active h
+
+-- a group by the link that its output has
+unfoldable pub group_clashes : List Link → List ℕ → Bool
+group_clashes ls c = clash (get_or ls (get_or c 0 0 - 1) fresh_link) (group_thermostat c)
+
 -- 1AH: eight bytes for each thermostat
-unfoldable pub set_thermostats : List ℕ → List Thermostat → Request (List Thermostat)
-set_thermostats d hs = refuse 8 (not (items_of 8 d)) (refuse 11 (not (all group_fits (chunks 8 d))) (accepting (foldl set_group hs (chunks 8 d)) []))
+unfoldable pub set_thermostats : List Link → List ℕ → List Thermostat → Request (List Thermostat)
+set_thermostats ls d hs =
+    refuse 8 (not (items_of 8 d))
+    (refuse 11 (not (all group_fits (chunks 8 d)))
+    (refuse 14 (any (group_clashes ls) (chunks 8 d))
+    (accepting (foldl set_group hs (chunks 8 d)) [])))
 
 unfoldable pub group_shown : List Thermostat → ℕ → List ℕ
 group_shown hs n =

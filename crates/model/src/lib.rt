@@ -60,6 +60,21 @@ impl Preset {
     };
 }
 
+// The link of an output (E8): the input whose edges drive it, and how (0: no link). The action is a byte and no enum: any may be stored,
+// and is shown as it is stored.
+#[derive(Clone, Copy)]
+pub struct Link {
+    pub input: u8,
+    pub action: u8,
+}
+
+impl Link {
+    pub const FRESH: Link = Link {
+        input: 0,
+        action: 0,
+    };
+}
+
 // A thermostat's settings. The flags are FSSKSTTT. Flags and ERR are bytes and no enums: any may be stored, and is shown so.
 #[derive(Clone, Copy)]
 pub struct Thermostat {
@@ -104,13 +119,14 @@ pub struct Port {
     pub permitted: bool,
 }
 
-// What only requests change, and a reset keeps: the inputs' modes and sampling number, presets, thermostats, the notice, and whether
-// the Spinel port tests SUM. Modes are bytes and no enum: any may be stored, and is shown so.
+// What only requests change, and a reset keeps: the inputs' modes and sampling number, presets, links, thermostats, the notice, and
+// whether the Spinel port tests SUM. Modes are bytes and no enum: any may be stored, and is shown so.
 #[derive(Clone, Copy)]
 pub struct Settings {
     pub modes: [u8; 16],
     pub sampling: u8,
     pub presets: [Preset; 16],
+    pub links: [Link; 16],
     pub thermostats: [Thermostat; 16],
     pub notice: Notice,
     pub sum_tested: bool,
@@ -166,6 +182,7 @@ pub enum Refusal {
     Value = 11,
     Held = 12,
     Repeated = 13,
+    Clash = 14,
 }
 
 impl Refusal {
