@@ -17,15 +17,16 @@ ALIKE = ["tempx tempy", "reading last", "spinel modbus", "address speed", "numbe
          "shape_wrong check_wrong broadcast_wrong", "least most broadcast"]
 NAMES, FIELDS = ({name: [other for other in names.split() if other != name] for names in listed for name in names.split()}
                  for listed in (TWINS, ALIKE))
+FIELDS["action"] = ["input"]  # of a link; `input` of something else has no such twin
 SIGNS = {"&&": "||", "||": "&&", "+": "-", "-": "+", "/": "%", "%": "/"}
 # which sides of an operator may stand alone
 SIDES = {"&&": "left right", "||": "left right", "+": "left right", "++": "left right", "-": "left", "/": "left", "%": "left", "*": "left",
          "∷": "right"}
 # functions that may be left out: how many arguments they take, and which of them stands for the whole
-PUT = "lines modes counters sampling inputs outputs settings presets thermostats notice sum_tested spinel modbus".split()
+PUT = "lines modes counters sampling inputs outputs settings presets links thermostats notice sum_tested spinel modbus".split()
 LEFT_OUT = {"not": (1, 0), "set": (3, 0), "take": (2, 1), "drop": (2, 1), "foldl": (3, 1), "permit": (2, 1), "used_up": (2, 1),
             "reset": (1, 0), "runs_ended": (1, 0), "answering": (2, 1), "with_reading": (4, 0), **{"with_" + part: (2, 0) for part in PUT}}
-REFUSALS = range(7, 14)  # what a request may be refused by
+REFUSALS = range(7, 15)  # what a request may be refused by
 
 
 @dataclass(frozen=True)

@@ -16,7 +16,7 @@ from translate import ROOT, Definitions, Parser, Writer, parsed, python, read, t
 TABLES = {"RackTable": rows.RACK, "Witnesses": rows.WITNESSES, "FrameTable": rows.FRAMES, "SampleTable": rows.SAMPLES,
           "CounterTable": rows.COUNTERS, "PortTable": rows.PORTS, "OutputTable": rows.OUTPUTS, "NoticeTable": rows.NOTICES,
           "ThermostatTable": rows.THERMOSTATS, "RegisterTable": rows.REGISTERS, "CoilTable": rows.COILS, "TextTable": rows.TEXTS,
-          "UnreachedTable": rows.UNREACHED}
+          "LinkTable": rows.LINKS, "UnreachedTable": rows.UNREACHED}
 # a state that is too far for playing, as the law of Wraps gives it
 NEARER = {"(run fresh_module (cycles 2147483647))": "counted 4294967294"}
 PROGRAMS = ["rack", "scenarios"]

@@ -1,5 +1,5 @@
 """What is proved of every state and call, tried on the states and calls of the cases: Refusals and Permissions of Demand1, PartsKept of
-Parts, Conserved of Cycles, and the step of Wraps; how every request is judged, tried on each set of the conditions 7 to 13;
+Parts, the claims of Linked, Conserved of Cycles, and the step of Wraps; how every request is judged, tried on each set of the conditions 7 to 14;
 SettingKept and HeatKept of Temperature, on settings with every byte of flags; and OneInputAlone of Alone, on pairs of modules.
 """
 import itertools
@@ -11,7 +11,7 @@ from translate import python
 
 LIMIT = 4294967296  # a counter is below it
 LONG = 400  # calls: demand 3 is tried on cases of at most so many
-REFUSALS = range(7, 14)  # what a request may be refused by
+REFUSALS = range(7, 15)  # what a request may be refused by
 READINGS = [("Fault",)] + [("Valid", tenths, 0) for tenths in (-1, 0, 199, 200, 250, 251, 300, 301)]
 
 
@@ -46,6 +46,36 @@ def permissions(f, m, c):
 def parts_kept(f, m, c):
     """PartsKept: what a call leaves is as it was."""
     return f("Parts.leaves", c["act"], f("Calls.step", m, c)["after"]) == f("Parts.leaves", c["act"], m)
+
+
+def links_aside(f, m, c):
+    """LinksAside: of a sample only outputs go by links and outputs; tried with no link, and with links of every action, 0 too."""
+    def told(n):
+        out = f("Calls.step", n, c)
+        return out["refusal"], out["reply"], f("Parts.without_outputs", f("Parts.without_links", out["after"]))
+
+    crosswise = tuple({"input": k, "action": k % 5} for k in range(16, 0, -1))
+    return c["act"][0] != "sample" or all(told(f("State.with_outputs", f("State.with_links", m, ls), ())) == told(m) for ls in ((), crosswise))
+
+
+def never_both(f, m):
+    """NeverBoth: no output has a link and an active thermostat."""
+    return not any(f("Linked.link_of", m, n)["action"] and f("Linked.thermostat_of", m, n)["flags"] >= 128 for n in range(1, 18))
+
+
+def links_apart(f, m, c):
+    """LinksApart: a call keeps it so."""
+    return not never_both(f, m) or never_both(f, f("Calls.step", m, c)["after"])
+
+
+def pulses_end_by_links(f, m, c):
+    """PulsesEndByLinks: a link that does not act leaves its output to its pulse, one that acts leaves none."""
+    if c["act"][0] != "sample":
+        return True
+    bits = c["act"][1]
+    after = f("Calls.sampled", bits, m)["after"]
+    return all(f("Linked.output_of", after, n)["left"] == 0 if f("Linked.link_acts", bits, m, n)
+               else f("Linked.output_of", after, n) == f("Outputs.pulsed", f("Linked.output_of", m, n)) for n in range(0, 18))
 
 
 def naming(values):
@@ -156,6 +186,11 @@ def input_of(chance, number):
     return chance.getrandbits(1), max(0, number - chance.randint(1, 4)), chance.randrange(4), chance.choice((0, 255, 65535, LIMIT - 2, LIMIT - 1))
 
 
+def links_of(chance):
+    """A link for each output, or now and then None: the module keeps its own."""
+    return [(chance.randint(1, 16), action) if action else (0, 0) for action in (chance.randrange(5) for _ in range(16))] if chance.randrange(4) else None
+
+
 def pairs(count):
     """Pseudo-random modules that agree in an input, each with samples; now and then one brings it a bit more than the other, or none alike."""
     chance = random.Random(3)
@@ -164,7 +199,8 @@ def pairs(count):
         own = input_of(chance, number)
         bits = [1 - own[0]] * 4 + [chance.getrandbits(1) for _ in range(chance.randrange(9))]  # four: an edge, as a run lacks no more
         others = {1: [*bits, 1], 4: [1 - bit for bit in bits] or [0]}.get(at % 6, bits)
-        sides = [(rows.standing(chance.choice(list(rows.AROUND)), number, k, own, lambda _: input_of(chance, number))[0], among(chance, k, brought))
+        sides = [(rows.standing(chance.choice(list(rows.AROUND)), number, k, own, lambda _: input_of(chance, number), links_of(chance))[0],
+                  among(chance, k, brought))
                  for brought in (bits, others)]
         yield "random pair %d" % (at + 1), k, others == bits, *sides
 
@@ -238,7 +274,7 @@ class Judged(Fact):
 
 def laws(world, cases):
     """All of them: those about a call on every case, demand 3 on the cases from a fresh module, that about a request on every set."""
-    for law in (refusals, permissions, parts_kept):
+    for law in (refusals, permissions, parts_kept, links_aside, links_apart, pulses_end_by_links):
         yield from (OnCalls(world, law, case) for case in cases)
     short = [case for case in cases if case.start == "fresh_module" and sum(count for line in case.lines for _, count in line.calls) <= LONG]
     yield from (Conserved(world, case).noted() for case in short)

@@ -1,4 +1,4 @@
-"""Documents 01 and 02 (E1 to E6; E3 changes no answer) in Python, written from the papers alone: the expected bytes of the tables in
+"""Documents 01 and 02 (E1 to E6 and E8; E3 changes no answer) in Python, written from the papers alone: the expected bytes of the tables in
 crates/model/proofs, and of the programs' stored output where 01 gives another reply than a source, are worked out with it. None is captured
 from the definitions or from the proved code.
 
@@ -10,7 +10,8 @@ from fractions import Fraction
 WIDTH = 4  # bytes of a counter: in the replies of 60H, in the amounts of 61H
 LIMIT = 256 ** WIDTH  # a counter that would reach it is 0 again
 ITEM = 1 + WIDTH  # bytes of a deduction of 61H
-ACK = {7: 2, 8: 3, 10: 4, 11: 3, 12: 3, 13: 3}  # of a refusal that is answered, in both formats of the Spinel port
+ACK = {7: 2, 8: 3, 10: 4, 11: 3, 12: 3, 13: 3, 14: 3}  # of a refusal that is answered, in both formats of the Spinel port
+EXCEPTION = {7: 1, 8: 3, 9: 2, 10: 4, 11: 3, 12: 4, 14: 4}  # and on the Modbus port
 OFF, BINARY, TEXT = 0, 0x61, 0x42  # the notice: off, on in format 97, on in format 66
 NUMBER = rb'([0-9]{1,3})'
 # the instructions of the text format: what stands between the code and the carriage return
@@ -70,6 +71,7 @@ class Out:
         self.on = 0; self.left = 0           # samples left of a pulse, 0: none
         self.ptype = 0; self.ptime = 0       # preset
         self.th = (0, 0, 0, 0, 0)            # flags, X, Y, TIME, ERR
+        self.link = (0, 0)                   # input, action: 0 none, 1 follow, 2 opposite, 3 on, 4 off at a rising edge
 
 class Module:
     def __init__(self):
@@ -97,6 +99,9 @@ class Module:
         f, x, y, _, _ = self.out[k].th
         if not f & 0x80: return False
         return not (self.reading is not None and y <= self.reading <= x)
+    def clashes(self, k, f):
+        """May output k get no thermostat with these flags, because it has a link?"""
+        return f & 0x80 != 0 and self.out[k].link[1] != 0
     def inputs(self): return sum(b << i for i, b in enumerate(self.stable))
     def outputs(self): return sum(o.on << i for i, o in enumerate(self.out))
 
@@ -116,6 +121,12 @@ class Module:
             if o.left:
                 o.left -= 1
                 if o.left == 0: o.on ^= 1
+        for k, o in enumerate(self.out):
+            i, action = o.link
+            i = max(i - 1, 0)                # no call stores input 0 or above 16 with an action: 0 goes as 1, above 16 has no edge
+            if not edges >> i & 1: continue
+            if action in (1, 2): self.set(k, self.stable[i] ^ (action == 2))
+            elif action in (3, 4) and self.stable[i]: self.set(k, int(action == 3))
         if self.notice == TEXT and edges & self.mask:
             each = [high(b) for b in self.stable]
             return 0, said(self.sa, b'D', b''.join(b' ' + b''.join(each[i:j]) for i, j in ((0, 5), (5, 10), (10, 15), (15, 16))))
@@ -249,7 +260,7 @@ class Module:
         one12 = 1 <= n <= 12
         lens = {0x10: n in (1, 3), 0x11: n == 0, 0x1A: n % 8 == 0 and 8 <= n <= 96, 0x1B: n <= 12,
                 0x20: one12, 0x23: 2 <= n <= 13, 0x25: one12, 0x26: n % 3 == 0 and 3 <= n <= 36,
-                0x30: n == 0, 0x31: n == 0, 0x33: one12, 0x36: one12, 0x38: one12, 0x51: n == 1,
+                0x30: n == 0, 0x31: n == 0, 0x33: one12, 0x36: one12, 0x38: one12, 0x40: n % 3 == 0 and 3 <= n <= 36, 0x41: one12, 0x51: n == 1,
                 0x60: one12, 0x61: n == 1 or (n % ITEM == 0 and ITEM <= n <= 12 * ITEM), 0x62: n == 1, 0x63: n == 0,
                 0x6A: n % 2 == 0 and 2 <= n <= 24, 0x6B: one12, 0xE0: n == 2, 0xE3: n == 0, 0xE4: n == 0, 0xEE: n == 1,
                 0xF0: n == 0, 0xFE: n == 0}
@@ -281,6 +292,7 @@ class Module:
             th = (f, s16(xh, xl), s16(yh, yl), t, e)
             if not 1 <= o <= 16 or not self.thermo_ok(*th): raise Ref(11)
             self.out[o-1].th = th
+        if any(self.clashes(o-1, f) for o, f in zip(d[::8], d[1::8])): raise Ref(14)
         return b''
     def i1B(self, d, a, sig, perm):
         ks = self.listread(d, False) if d else range(16)
@@ -329,6 +341,16 @@ class Module:
             f = self.out[k].th[0]
             r.append(0xA0 + (f & 8) + (f >> 4 & 7) if f & 0x80 else self.out[k].ptype)
         return bytes(r)
+    def i40(self, d, a, sig, perm):
+        groups = list(zip(d[::3], d[1::3], d[2::3]))
+        for i, o, action in groups:
+            if not 1 <= i <= 16 or not 1 <= o <= 16 or action > 4: raise Ref(11)
+        for i, o, action in groups:
+            if action and self.out[o-1].th[0] & 0x80: raise Ref(14)
+        for i, o, action in groups:
+            self.out[o-1].link = (i, action) if action else (0, 0)
+        return b''
+    def i41(self, d, a, sig, perm): return b''.join(bytes(self.out[k].link) for k in self.listread(d))
     def i51(self, d, a, sig, perm):
         if d[0] > 1: raise Ref(11)
         if self.reading is None: return bytes([1, 0, 0, 0])
@@ -407,7 +429,7 @@ class Module:
             r, rep = 0, mod(own, fn, body)
         except Ref as e:
             r = e.n
-            rep = mod(own, fn | 0x80, [{7: 1, 8: 3, 9: 2, 10: 4, 11: 3, 12: 4}[r]])
+            rep = mod(own, fn | 0x80, [EXCEPTION[r]])
         return r, (b'' if a == 0 else rep)
 
     @staticmethod
@@ -521,6 +543,7 @@ class Module:
             if vs[0] > 255: raise Ref(11)
             th = (vs[0], sg(vs[1]), sg(vs[2]), vs[3] >> 8, vs[3] & 255)
             if not self.thermo_ok(*th): raise Ref(11)
+            if self.clashes(k//4, vs[0]): raise Ref(14)
             self.out[k//4].th = th
         return rep
 
@@ -631,3 +654,24 @@ if __name__ == '__main__':
     m.out[0].th = (0x81, 300, 200, 0, 0)
     texts(m, (b'1OS1H', 12, b'13'), (b'1OT1H0', 11, b'13'), (b'%OST1H9', 12, b''), (b'1OS2H', 0, b'10'))
     print('text format ok')
+    m = Module(); m.n = 1
+    # outputs 1 to 4 by the four actions, at a rising edge and at a falling one, from off and from on, each in a pulse
+    assert m.spinel(spin(0x31, 2, 0x40, [2, 1, 1, 2, 2, 2, 2, 3, 3, 2, 4, 4])) == (0, spin(0x31, 2, 0, []))
+    for bits, was, on, left in ((2, 0, 5, 0), (0, 0, 2, 0b1100), (2, 15, 5, 0), (0, 15, 14, 0b1100), (0, 15, 15, 15), (1, 0, 0, 15), (0x8000, 15, 15, 15)):
+        for k in range(4): m.set(k, was >> k & 1, 7)
+        assert m.sample(bits) == (0, b'') and m.outputs() == on, (bits, was, m.outputs())
+        assert [o.left for o in m.out[:4]] == [6 * (left >> k & 1) for k in range(4)]
+    assert m.spinel(spin(0x31, 2, 0x41, [4, 1, 16])) == (0, spin(0x31, 2, 0, h('020402010000')))
+    assert m.spinel(spin(0x31, 2, 0xE3, []))[0] == 0
+    assert m.spinel(spin(0x31, 2, 0x40, [1, 2, 3, 16, 2, 0, 5, 16, 1])) == (0, spin(0x31, 2, 0, []))
+    assert m.spinel(spin(0x31, 2, 0x41, [0])) == (0, spin(0x31, 2, 0, h('0201 0000 0203 0204' + '0000' * 11 + '0501')))
+    for wrong in ([0, 1, 1], [17, 1, 0], [1, 0, 0], [1, 17, 1], [1, 1, 5]): assert m.spinel(spin(0x31, 2, 0x40, [1, 2, 1] + wrong))[0] == 11
+    for length in (0, 1, 2, 4, 35, 37, 39): assert m.spinel(spin(0x31, 2, 0x40, [1] * length))[0] == 8
+    heat = h('8100C800640000')
+    assert m.spinel(spin(0x31, 2, 0x1A, b'\x02' + heat + b'\x01' + heat)) == (14, spin(0x31, 2, 3, [])) and not m.out[1].th[0]
+    assert m.spinel(spin(0x31, 2, 0x1A, b'\x01' + heat + b'\x11' + heat))[0] == 11
+    assert m.modbus(mod(0x31, 16, h('0258 0004 08 0081 00C8 0064 0000'))) == (14, mod(0x31, 0x90, [4]))
+    assert m.modbus(mod(0x31, 16, h('025C 0004 08 0081 00C8 0064 0000')))[0] == 0 and m.held(1)
+    assert m.spinel(spin(0x31, 2, 0x40, [1, 2, 1, 1, 2, 0])) == (14, spin(0x31, 2, 3, []))
+    assert m.spinel(spin(0x31, 2, 0x40, [1, 2, 1, 1, 2, 5]))[0] == 11 and m.spinel(spin(0x31, 2, 0x40, [1, 2, 0]))[0] == 0
+    print('links ok')

@@ -336,10 +336,11 @@ FRAMES = [
          S(0x1A, *group(1, 0x81, 300, 200)), S(0x20, 1, a=0xFF), S(0x23, 1, 1, a=0xFF), S(0x25, 1, a=0xFF), S(0x30)),
     case("spinel_broadcast_others", "6: any other instruction to all, and nothing changes",
          *[S(i, *d, a=0xFF) for i, d in ((0x10, [1]), (0x11, []), (0x1A, group(1, 0, 0, 0)), (0x1B, []), (0x26, [1, 2, 1]), (0x30, []),
-           (0x31, []), (0x33, [0]), (0x36, [0]), (0x38, [0]), (0x51, [1]), (0x60, [0]), (0x61, [0]), (0x62, [1]), (0x63, []),
+           (0x31, []), (0x33, [0]), (0x36, [0]), (0x38, [0]), (0x40, [1, 1, 1]), (0x41, [0]), (0x51, [1]), (0x60, [0]), (0x61, [0]), (0x62, [1]),
+           (0x63, []),
            (0x6A, [1, 3]), (0x6B, [0]), (0xE0, [0x31, 6]), (0xE3, []), (0xE4, []), (0xEE, [0]), (0xF0, []), (0xFE, []), (0x1F, []),
-           (0x21, [0x81]), (0x22, [1, 0x81]), (0x24, [1, 0x81]), (0x99, []))],
-         S(0x11), S(0x36, 1), S(0x63), S(0x6B, 1)),
+           (0x21, [0x81]), (0x22, [1, 0x81]), (0x24, [1, 0x81]), (0x3F, [1, 1, 1]), (0x42, [0]), (0x99, []))],
+         S(0x11), S(0x36, 1), S(0x41, 1), S(0x63), S(0x6B, 1)),
     case("modbus_lengths", "2: under 4 bytes, or over 256; with 4 and with 256 the function is judged",
          raw("modbus"), raw("modbus", 0x31, 0x07, 0x55), raw("modbus", 0x31, 0x07, 0x55, 0xE2), M(3, *[0] * 252), M(3, *[0] * 253)),
     case("modbus_crc", "4: either byte off, or exchanged; before 5; the whole frame counts",
@@ -355,8 +356,8 @@ FRAMES = [
          M(0x11, a=0), R(1, 0, 16), R(3, 300, 1),
          S(0x1A, *group(1, 0x81, 300, 200)), R(5, 0, 0, a=0), C(0, 1, 0, a=0), R(1, 0, 16)),
     case("spinel_unlisted", "7 for every instruction between the listed ones, whatever the data",
-         *[S(i) for i in (0x00, 0x0F, 0x12, 0x19, 0x1C, 0x1F, 0x21, 0x22, 0x24, 0x27, 0x2F, 0x32, 0x34, 0x35, 0x37, 0x39, 0x50, 0x52,
-           0x5F, 0x64, 0x69, 0x6C, 0xDF, 0xE1, 0xE2, 0xE5, 0xED, 0xEF, 0xF1, 0xFD, 0xFF)], S(0x22, 1, 2)),
+         *[S(i) for i in (0x00, 0x0F, 0x12, 0x19, 0x1C, 0x1F, 0x21, 0x22, 0x24, 0x27, 0x2F, 0x32, 0x34, 0x35, 0x37, 0x39, 0x3F, 0x42, 0x50, 0x52,
+           0x5F, 0x64, 0x69, 0x6C, 0xDF, 0xE1, 0xE2, 0xE5, 0xED, 0xEF, 0xF1, 0xFD, 0xFF)], S(0x22, 1, 2), S(0x3F, 1, 1, 1), S(0x42, 1)),
     case("modbus_unlisted", "7 for every other function; the exception has bit 7, 80H and up stay",
          *[M(i) for i in (0x00, 0x07, 0x0E, 0x11, 0x16, 0x7F, 0x80, 0x83, 0xFF)], M(8, 0, 0, 0, 0)),
     case("any_sum", "SUM untested (E5): one more or less, all bits turned, 0, 255 and the right one; the reply has a right SUM; to FE too",
@@ -365,7 +366,7 @@ FRAMES = [
     case("any_sum_served", "SUM untested (E5): a deduction, a read that zeroes, a preset, and 20H, 23H, 25H to all, unanswered, refused or not",
          COUNT3, UNTESTED, X(0x61, 1, 0, 0, 0, 2), S(0x60, 1, 2), X(0x60, 0x82), S(0x60, 1, 2), X(0x26, 3, 3, 2), X(0x20, 0x81, a=0xFF),
          X(0x23, 2, 0x82, a=0xFF), S(0x33, 1, 2, 3), X(0x25, 3, a=0xFF), X(0x20, 1, 0x91, a=0xFF), S(0x33, 1, 2, 3)),
-    case("any_sum_order", "SUM untested (E5): all but 4 as before and in order, with a wrong SUM: 1, 2, 3, 5, 6; then 7, 8, 10, 13, 11, 12",
+    case("any_sum_order", "SUM untested (E5): all but 4 as before and in order, with a wrong SUM: 1, 2, 3, 5, 6; then 7, 8, 10, 13, 11, 14, 12",
          UNTESTED, X(0x20, 0x81, room=255), raw("spinel", 0x2A, 0x61, 0, 4, 0x31, 2, 0x3E, 0x0D), raw("spinel", *[0] * 257),
          raw("spinel", 0x2B, 0x61, 0, 5, 0x31, 2, 0x30, 0x0C, 0x0D), raw("spinel", 0x2A, 0x62, 0, 5, 0x31, 2, 0x30, 0x0C, 0x0D),
          raw("spinel", 0x2A, 0x61, 0, 6, 0x31, 2, 0x30, 0x0C, 0x0D), raw("spinel", 0x2A, 0x61, 1, 5, 0x31, 2, 0x30, 0x0C, 0x0D),
@@ -373,10 +374,12 @@ FRAMES = [
          raw("spinel", 0x2A, 0x61, 0, 5, 0x31, 2, 0x30, 0x0D, 0x0C), raw("spinel", 0x2A, 0x61, 0, 5, 0x32, 2, 0x30, 0x00, 0x0E),
          X(0x30, a=0x32), X(0x20, 0x81, a=0), X(0x60, 0x80, a=0xFF), X(0xEE, 1, a=0xFF), X(0x99, a=0xFF), X(0x99), X(0x30, 0),
          raw("spinel", 0x2A, 0x61, 0, 5, 0x31, 2, 0x20, 0x81, 0x0D), X(0xE0, 0x31, 6), X(0xEE, 1), X(0xE4, a=0xFE), X(0x61, *[1, 0, 0, 0, 0] * 2), X(0x62, 0),
-         X(0x61, 1, 0, 0, 0, 1), S(0x1A, *group(1, 0x81, 300, 200)), X(0x20, 0x81), X(0x20, 0x81, a=0xFF), S(0x30), S(0xFE)),
+         X(0x61, 1, 0, 0, 0, 1), S(0x1A, *group(1, 0x81, 300, 200)), X(0x40, 1, 1, 5), X(0x40, 1, 1, 1), X(0x20, 0x81), X(0x20, 0x81, a=0xFF),
+         S(0x30), S(0xFE)),
     case("any_sum_every", "SUM untested (E5): every instruction, frames of 67 and 256 bytes; nothing on either port but EEH turns the test on",
          UNTESTED, X(0xE4), X(0xEE, 0), X(0x10, 1), X(0x11), X(0x1A, *group(1, 0, 0, 0)), X(0x1B), X(0x20, 0x81), X(0x23, 1, 0x82), X(0x26, 1, 2, 1),
-         X(0x25, 1), X(0x30), X(0x31), X(0x33, 1), X(0x36, 1), X(0x38, 1), X(0x51, 1), X(0x60, 1), X(0x61, 0), X(0x62, 1), X(0x63), X(0x6A, 1, 3),
+         X(0x25, 1), X(0x30), X(0x31), X(0x33, 1), X(0x36, 1), X(0x38, 1), X(0x40, 1, 1, 1), X(0x41, 1), X(0x51, 1), X(0x60, 1), X(0x61, 0),
+         X(0x62, 1), X(0x63), X(0x6A, 1, 3),
          X(0x6B, 1), X(0xE3), X(0xF0), X(0xFE), X(0x61, *[b for n in range(1, 13) for b in (n, 0, 0, 0, 0)]), X(0x99, *[0] * 247),
          R(1, 0, 1), R(2, 0, 1), R(3, 1, 1), R(4, 0, 1), R(5, 0, 0xFF00), R(6, 300, 3), C(0, 1, 1), W(100, 0), samples(1), T(0), bad(0), S(0xFE)),
     case("any_sum_crc", "SUM untested (E5): a CRC with either byte off is 4, to all too; a right one is accepted",
@@ -531,18 +534,20 @@ COUNTERS = [
 
 # Permission, address and speed, reset -----------------------------------------------------
 
-# every field of the state unlike the fresh one: inputs 1 to 3 count, states 5, runs begun, outputs and a pulse, presets, thermostats of
-# outputs 5 and 6, a reading and a last one, a notice, SUM untested, both ports permitted
+# every field of the state unlike the fresh one: inputs 1 to 3 count, states 5, runs begun, outputs and a pulse, presets, links of outputs 7
+# and 8, thermostats of outputs 5 and 6, a reading and a last one, a notice, SUM untested, both ports permitted
 FULL = [
     S(0x6A, 1, 3, 2, 1, 3, 2), S(0x62, 2), P(5, 2), P(4, 2), P(5, 2), P(2), S(0x20, 0x81, 0x84), S(0x23, 9, 0x82), S(0x26, 3, 2, 7, 4, 3, 8),
+    S(0x40, 2, 7, 1, 1, 8, 2),
     S(0x1A, *group(5, 0xC1, 300, 200, 2, 0), *group(6, 0x81, 300, 200)), T(250), S(0x10, 1, 0x00, 0x07, s=7), *UNTESTED,
 ]
 # what can be read of it, by both ports
 SHOWN = [
-    S(0x31), S(0x60, 0), S(0x6B, 1, 2, 3), S(0x63), S(0x33, 1, 2, 4), S(0x36, 3, 4), S(0x1B, 5, 6), S(0x51, 1), S(0x11), S(0xFE), S(0xF0, a=0xFE),
+    S(0x31), S(0x60, 0), S(0x6B, 1, 2, 3), S(0x63), S(0x33, 1, 2, 4), S(0x36, 3, 4), S(0x41, 7, 8), S(0x1B, 5, 6), S(0x51, 1), S(0x11), S(0xFE),
+    S(0xF0, a=0xFE),
 ]
-# and what only later calls show: the runs, the signature of the notice, the last valid reading, the permission
-LATER = [P(2), S(0x31, a=0xFE), ("sample", 2, 1, 256), T(301), S(0x33, 5, a=0xFE), FAULT, S(0xE0, 0x31, 6)]
+# and what only later calls show: the runs, the signature of the notice, the links at an edge, the last valid reading, the permission
+LATER = [P(2), S(0x31, a=0xFE), ("sample", 2, 1, 256), S(0x30, a=0xFE), T(301), S(0x33, 5, a=0xFE), FAULT, S(0xE0, 0x31, 6)]
 
 PORTS = [
     case("given", "E4H without data, not to FE: then E0H is permitted, once; F0H shows address and speed; fresh there is no permission",
@@ -590,6 +595,17 @@ PORTS = [
           (S(0xE3), ack()), (S(0x60, 0), counts(*[0] * 16))),
     case("before", "what the three resets started from",
          FULL, SHOWN, LATER),
+    case("links_kept", "every reset keeps links (E8), and they act after it: E3H, E0H, AS, SS, registers 1 and 2, singly and together",
+         S(0x62, 1), S(0x40, 1, 1, 1, 16, 16, 2, 1, 2, 3), samples(1), *[c for reset, a in (
+             ([S(0xE3)], 0x31), ([S(0xE4), S(0xE0, 0x32, 7)], 0x32), ([B("E", "2"), B("AS1", "2")], 0x31), ([B("E"), B("SS7")], 0x31),
+             ([R(6, 0, 0xFF), R(6, 1, 0x31)], 0x31),
+             ([R(6, 0, 0xFF), R(6, 2, 6)], 0x31), ([R(6, 0, 0xFF), W(1, 0x31, 7)], 0x31))
+             for c in (*reset, S(0x41, 0, a=a), S(0x30, a=a), P(0x8000), S(0x30, a=a), P(1), S(0x30, a=a))]),
+    case("links_kept_by_requests", "slip: a request that clears links (E8). Presets, thermostats with F = 0, clears, modes, the notice, the number; refused resets",
+         S(0x62, 1), S(0x40, 2, 3, 4, 5, 16, 1), S(0x26, 3, 2, 1, 16, 0, 0), S(0x1A, *group(3, 1, 300, 200), *group(16, 0, 0, 0)), W(608, 0, 0, 0, 0),
+         S(0x61, 0), W(100, *[0] * 16), S(0x6A, 2, 3, 5, 1),
+         S(0x10, 1, 0, 0), S(0x10, 0), S(0x62, 2), S(0x20, 0x83), S(0x25, 3), S(0xE3, 0), S(0xE0, 0x31, 6), R(6, 2, 6), B("AS1"), S(0x38, 3, 16),
+         S(0x41, 0), P(0x12), P(0x12), S(0x33, 3, 16)),
     case("sum_test", "EEH (E5): 00 ends the test of SUM, 01 begins it, also twice; FEH asks, fresh 01; to FE; 6 to all, still permitted",
          S(0xFE), S(0xE4), S(0xEE, 1), S(0xFE), S(0xE4), S(0xEE, 0), S(0xFE), S(0xE4), S(0xEE, 0), S(0xFE, a=0xFE), S(0xFE, 0), S(0xFE, 1, 1),
          S(0xE4), S(0xEE, 1, a=0xFF), S(0xFE, a=0xFF), S(0xEE, 1), S(0xFE), S(0xE4), S(0xEE, 0, a=0xFE), S(0xFE)),
@@ -970,6 +986,27 @@ THERMOSTATS = [
     case("actions_stored", "1AH with F = 1: every SS, K and ERR, with the third S and without, limits alike and below zero, TIME 0 where no pulse is meant",
          *[c for fs in (FOUR, (0x81, 0x91, 0xA1, 0xB1), (0xC1, 0xD1, 0xE1, 0xF1)) for n in (0, 1) for c in (
              listing(*[group(k, fs[k % 4], *LIMITS[(k + k // 4 + n) % 4], k % 3 * 127 + (fs[0] > 0xC0), (k + n) % 3) for k in range(5, 17)]), FAULT, T(250), S(0xE3), S(0x1B, *range(5, 17)))]),
+    case("heat_or_link", "14 (E8): 1AH with F = 1 for an output with a link, whatever action it has; F = 0 is stored; its neighbours are free",
+         S(0x40, 1, 5, 1, 2, 6, 2, 3, 9, 3, 4, 10, 4), *[S(0x1A, *group(k, 0x81, 300, 200)) for k in (5, 6, 9, 10, 4, 7, 8, 11, 1, 2, 3)],
+         at(0x01, output=5), at(0x7F, output=6), S(0x1B, 4, 5, 6, 7), S(0x38, 4, 5, 9),
+         *[at(f, 1, output=5) for f in (0x91, 0xA1, 0xC1, 0xD1, 0xE1, 0x89, 0xB9)], T(301), S(0x30), FAULT, at(0x81, output=10), S(0x40, 1, 5, 0),
+         at(0x81, output=5), at(0x81, output=6), S(0x1B, 5, 6), S(0x41, 4, 5, 6)),
+    case("heat_or_link_list", "14 (E8) in whichever place of the list, and no group of it is stored; each group for itself, F = 0 behind F = 1 too",
+         S(0x40, 1, 2, 1, 1, 16, 3), listing(group(2, 0x81, 300, 200), group(3, 0x81, 300, 200)),
+         listing(group(3, 0x81, 300, 200), group(16, 0x81, 300, 200), group(4, 0x81, 300, 200)),
+         listing(group(3, 0x81, 300, 200), group(4, 0x81, 300, 200), group(2, 0xA9, 300, 200)),
+         listing(group(2, 0x81, 300, 200), group(2, 0x01, 300, 200)),
+         listing(group(2, 0x01, 300, 200), group(2, 0x81, 300, 200)), listing(group(3, 0x01, 9, 8), group(2, 0x81, 300, 200)),
+         listing(*[group(k, 0x81, 300, 200) for k in range(5, 17)]),
+         S(0x1B), listing(group(2, 0x01, 300, 200), group(3, 0x81, 300, 200), group(16, 0x01, 1, 2)), S(0x1B, 2, 3, 16),
+         listing(group(3, 0x01, 300, 200), group(3, 0x81, 300, 200)), S(0x41, 2, 3, 16)),
+    case("heat_or_link_order", "8, every 11 of the call, then 14 (E8); a group at fault before or behind, or the same group",
+         S(0x40, 1, 2, 1), S(0x1A, *group(2, 0x81, 300, 200), 0), listing(group(2, 0x81, 300, 200), group(17, 0x81, 300, 200)),
+         listing(group(0, 0, 0, 0), group(2, 0x81, 300, 200)),
+         listing(group(2, 0x81, 300, 200), group(3, 0x80, 300, 200)), listing(group(2, 0x81, 300, 200), group(3, 0x01, 0, 0, 0, 3)),
+         at(0x82, output=2), at(0xC1, output=2), at(0x81, 0, 3, 2),
+         S(0x1A, *group(2, 0x81, 200, 300)), listing(group(3, 0x81, 300, 200), group(2, 0x81, 300, 200)), S(0x1A, *group(2, 0x81, 300, 200), a=0xFE),
+         S(0x1A, *group(2, 0x81, 300, 200), a=0xFF), S(0x1B, 2, 3)),
     case("idle_stored", "1AH with F = 0: any SS, K, third S, sensor, limits and TIME; a reset keeps them",
          *[c for n in range(6) for c in (
              listing(*[group(k, (k * 11 + n * 37) % 128, *IDLE_LIMITS[(k + n) % 4], (0, 1, 255)[(k // 4 + n) % 3], (k + n) % 3) for k in range(5, 17)]), S(0x1B, *range(5, 17)))],
@@ -1076,6 +1113,16 @@ REGISTERS = [
     case("bands_written_quiet", "600 up with the third S (E6) turns nothing and ends no pulse: before a reading, beyond the band, at a fault, within",
          *[c for reading in ([], [T(301)], [FAULT], [T(250)]) for c in (*reading, *[four(k, FOUR[k % 4] & 0x7F, 300, 200) for k in range(5, 9)], S(0x23, 2, 0x85, 6, 7, 0x88),
            *[four(k, FOUR[k % 4], 300, 200, k % 2, 2 - k % 2) for k in range(5, 9)], S(0x33, 5, 6, 7, 8))]),
+    case("heat_or_link_written", "14 (E8), exception 04: 600 up with F = 1 for an output with a link; F = 0 is stored; its neighbours are free; the same answers as by 1AH",
+         S(0x40, 1, 2, 1, 2, 16, 4, 3, 7, 2), *[four(k, 0x81, 300, 200) for k in (2, 16, 7, 1, 3, 6, 8, 15)],
+         *[four(k, f, 300, 200, 1) for k, f in ((2, 0xC1), (16, 0x89), (2, 0xB9), (16, 0x91))],
+         four(2, 0x01, 300, 200), four(16, 0x7F, -200, 300), R(3, 600, 4), R(3, 604, 4), R(3, 660, 4), T(301), R(1, 0, 16), S(0x40, 1, 2, 0),
+         four(2, 0x81, 300, 200), four(16, 0x81, 300, 200), S(0x1B, 2, 16), S(0x41, 2, 16)),
+    case("heat_or_link_written_order", "8, 9 and 11 come before 14 (E8): another length, another count, misaligned, another sensor, limits, a TIME, ERR, a high byte; nothing is stored",
+         S(0x40, 1, 2, 1), M(0x10, *words(604, 4), 7, *words(0x81, 300, 200), 1), W(605, 0x81, 300, 200, 0), W(604, 0x81, 300, 200), R(6, 604, 0x81),
+         four(2, 0x82, 300, 200), four(2, 0x81, 200, 201),
+         four(2, 0xC1, 300, 200), four(2, 0xC9, 300, 200, 1), four(2, 0x81, 300, 200, 0, 3), W(604, 0x0181, 300, 200, 0), four(2, 0x81, 300, 200),
+         W(604, 0x81, 300, 200, 0, a=0), R(3, 604, 4)),
     case("thermostat_range", "600 up: 06, another count, misaligned, beside the group: 9",
          R(6, 600, 0x81), R(6, 604, 0), R(6, 663, 0), W(600, 0, 0, 0), W(600, 0, 0, 0, 0, 0), W(600, *[0] * 8), W(601, 0, 0, 0, 0), W(602, 0, 0, 0, 0), W(599, 0, 0, 0, 0),
          W(596, 0, 0, 0, 0), W(661, 0, 0, 0, 0), W(664, 0, 0, 0, 0), R(6, 599, 0), R(6, 664, 0), S(0x1B, 1, 16)),
@@ -1276,6 +1323,10 @@ TEXTS = [
     case("text_and_binary", "both formats and both ports in turn: what one sets the others show",
          S(0x62, 1), samples(5), texts("IR: 1 2"), S(0x20, 0x82), B("OR2"), B("OS1H"), S(0x30), S(0x23, 4, 0x83), B("OR3"), R(5, 4, 0xFF00), B("OR5"),
          B("OST5L255"), R(3, 504, 1)),
+    case("text_links", "OS, OT and OST move a linked output (E8), OR shows what its link did, and a text notice the inputs; no text changes a link",
+         S(0x62, 1), S(0x40, 1, 1, 1, 1, 2, 2), B("IS1"), P(1), texts("OR: 1 2", "OS1L", "OS2H", "OR: 1 2"), P(0),
+         texts("OR: 1 2", "OST1H1", "OT2L1"), S(0x33, 1, 2), P(1), S(0x33, 1, 2), B("OS1L", "%"), B("OR1"),
+         texts("IS0", "IR1", "RT1", "IX"), S(0x41, 1, 2), P(0), texts("OR: 1 2")),
     typed("text_own_fe", "an own address FE, which no run reaches: in text it is an address like any other", state("spinel", "port 0xFE 6 false"),
           (B("E", "\xfe"), replied(0, "\xfe0")), (B("AS1", "\xfe"), replied(0, "\xfe0")), (B("IX"), replied(0, "100"))),
     typed("text_own_ff", "an own address FF, the same: it is answered", state("spinel", "port 0xFF 6 false"),
@@ -1283,6 +1334,233 @@ TEXTS = [
     typed("text_off_with_mask", "a notice that is off and has a mask, which no run reaches: IX is 0, and IS1 turns it on with all inputs",
          state("notice", "notice 0 0x0001 0x05"),
           (B("IX"), replied(0, "100")), (B("IS1"), replied(0, "10")), (S(0x11), ack(0x42, 0xFF, 0xFF))),
+]
+
+# Links (E8) ------------------------------------------------------------------------------------
+
+def L(*links, **at):
+    """40H: links, each an input, an output and an action."""
+    return S(0x40, *[b for link in links for b in link], **at)
+
+
+def watched(*bits):
+    """Samples, 30H after each."""
+    return [c for b in bits for c in (P(b), S(0x30))]
+
+
+def ends(*bits):
+    """The same on output 1, 33H after each."""
+    return [c for b in bits for c in (P(b), S(0x33, 1))]
+
+
+def switched_all(on):
+    """0F: all sixteen outputs off or on."""
+    return C(0, 16, *[0xFF * on] * 2)
+
+
+def from_both(*bits):
+    """Each sample behind its opposite, so that every input has an edge, from where all outputs are off and from where all are on."""
+    return [c for b in bits for on in (0, 1) for c in (P(b ^ 0xFFFF), switched_all(on), P(b), S(0x30))]
+
+
+def all_links(input_of, action_of=lambda k: 1):
+    """40H for all sixteen outputs, in two lists."""
+    return [L(*[(input_of(k), k, action_of(k)) for k in ks]) for ks in (range(1, 9), range(9, 17))]
+
+
+SINGLY = [1 << k for k in range(16)]
+# outputs 1 to 4 by each action of input 1, and 5 to 8, 9 to 12 likewise
+FOURFOLD = [L(*[(1, k, (k - 1) % 4 + 1) for k in range(1, 13)])]
+ACTIVE = group(1, 0x81, 300, 200)[1:]  # a thermostat with F = 1, without its output
+IDLE = group(1, 0x01, 300, 200)[1:]
+
+
+def heat(*outputs, of=ACTIVE, **at):
+    """1AH: the same thermostat for each of these outputs."""
+    return S(0x1A, *[b for k in outputs for b in (k, *of)], **at)
+
+
+LINKS = [
+    case("links_fresh", "41H: fresh there is none; 1 to 12 outputs in the order asked, 00 alone is all; none, 13: 8; 17, 0 among several: 11",
+         S(0x41, 0), S(0x41, 1), S(0x41, 16, 1), S(0x41, *range(5, 17)), S(0x41, *[1] * 12), S(0x41, *[1] * 13), S(0x41, *[17] * 13), S(0x41),
+         S(0x41, 17),
+         S(0x41, 0, 0), S(0x41, 1, 0), S(0x41, 0, 1), S(0x41, 16, 17), S(0x41, 17, 1), S(0x41, 0x81), S(0x41, 0x40), S(0x41, 255),
+         S(0x41, *[1] * 11, 17)),
+    typed("links_read", "40H and 41H: input and action, read by the output; two zeros where there is none; a repeat of a number in the list reads the same", "fresh_module",
+          (L((3, 9, 4), (9, 2, 1), (16, 1, 2), (1, 16, 3)), ack()), (S(0x41, 9), ack(3, 4)), (S(0x41, 3), ack(0, 0)),
+          (S(0x41, 2, 1, 16), ack(9, 1, 16, 2, 1, 3)),
+          (S(0x41, 16, 9, 16, 3), ack(1, 3, 3, 4, 1, 3, 0, 0)), (S(0x41, 0), ack(16, 2, 9, 1, *[0] * 12, 3, 4, *[0] * 12, 1, 3)),
+          (S(0x41, *range(1, 13)), ack(16, 2, 9, 1, *[0] * 12, 3, 4, *[0] * 6)), (S(0x30), ack(0, 0)), (S(0x33, 9, 16), ack(9, 0, 16, 0))),
+    typed("links_act", "each action at a rising edge and at a falling one, from off and from on, in mode 0; without an edge none acts", "fresh_module",
+          (S(0x62, 1), ack()), (L(*[(1, k, k) for k in (1, 2, 3, 4)], *[(1, 4 + k, k) for k in (1, 2, 3, 4)], (1, 9, 0), (1, 10, 0)), ack()),
+          (S(0x20, 0x85, 0x86, 0x87, 0x88, 0x8A, 0x8C), ack()), (P(0), QUIET), (S(0x30), ack(0x0A, 0xF0)),
+          (P(1), QUIET), (S(0x30), ack(0x0A, 0x55)), (P(1), QUIET), (S(0x30), ack(0x0A, 0x55)),
+          (switched_all(0), modbus_ack(0x0F, *words(0, 16))), (P(1), QUIET), (S(0x30), ack(0, 0)),
+          (S(0x20, 0x85, 0x86, 0x87, 0x88, 0x8A, 0x8C), ack()),
+          (P(1), QUIET), (S(0x30), ack(0x0A, 0xF0)), (P(0), QUIET), (S(0x30), ack(0x0A, 0xE2)), (P(0), QUIET), (S(0x30), ack(0x0A, 0xE2)),
+          (switched_all(1), modbus_ack(0x0F, *words(0, 16))), (P(0), QUIET), (S(0x30), ack(0xFF, 0xFF)), (P(1), QUIET), (S(0x30), ack(0xFF, 0x55))),
+    case("links_any_mode", "slip: a link that goes by the mode. Inputs 1 to 4 in modes 0 to 3, each with all four actions, from off and from on; the counters go by the modes",
+         S(0x6A, 2, 1, 3, 2, 4, 3), S(0x62, 1), all_links(lambda k: (k + 3) // 4, lambda k: (k - 1) % 4 + 1), from_both(0xFFFF, 0),
+         S(0x60, 1, 2, 3, 4),
+         S(0x6A, 1, 2, 2, 3, 3, 0, 4, 1), from_both(0xFFFF, 0, 5, 10), S(0x60, 1, 2, 3, 4), S(0x6B, 1, 2, 3, 4)),
+    case("links_set_nothing", "40H moves no output and ends no pulse, and a link acts at no level: the input is on, the output stays until an edge",
+         S(0x62, 1), samples(1), S(0x23, 3, 0x82, 3), L((1, 1, 1), (1, 2, 2), (1, 3, 1), (2, 4, 2)), S(0x33, 1, 2, 3, 4), watched(1, 1),
+         S(0x33, 1, 2, 3, 4),
+         S(0x20, 0x81), watched(1), L((1, 1, 1)), S(0x20, 1), watched(1, 0, 0), S(0x20, 0x81), watched(0, 1), L((1, 1, 0), (1, 2, 0)), S(0x30),
+         watched(0, 1), S(0x41, 1, 2, 3, 4)),
+    case("links_end_pulses", "a link that acts ends an on pulse and an off pulse, also where the output has that state: nothing turns at their end",
+         S(0x62, 1), FOURFOLD, S(0x23, 1, *range(0x81, 0x85), 5, 6, 7, 8), P(0), S(0x33, *range(1, 9)), P(1), S(0x33, *range(1, 9)), P(1, 500),
+         S(0x33, *range(1, 9)),
+         S(0x23, 1, *range(0x81, 0x85), 5, 6, 7, 8), P(1), P(0), S(0x33, *range(1, 9)), P(0, 498), S(0x33, *range(1, 9)), P(0),
+         S(0x33, *range(1, 9))),
+    case("links_leave_pulses", "one that does not act leaves the pulse: no edge, a run begun, a falling edge with 3 and 4, another input's edge, action 0",
+         S(0x62, 2), L((1, 1, 1), (1, 2, 2), (1, 3, 3), (1, 4, 4), (2, 5, 1), (2, 6, 2), (2, 7, 3), (2, 8, 4), (1, 9, 0)),
+         S(0x23, 1, *range(0x81, 0x8A)),
+         P(0), P(1), P(0), P(4, 2), P(4), P(1), S(0x33, *range(1, 10)), P(5), S(0x33, *range(1, 10)), P(1, 491), S(0x33, *range(1, 10)), P(1),
+         S(0x33, *range(1, 10)),
+         S(0x23, 1, 3, 4, 0x85, 0x86, 0x89), P(0, 2), S(0x33, *range(1, 10)), P(0, 498), S(0x30), P(0), S(0x33, *range(1, 10))),
+    case("links_at_a_pulse_end", "the sample that ends a pulse and brings the edge: the link has the last word, whichever way the pulse went",
+         S(0x62, 1), FOURFOLD, S(0x23, 1, *range(0x81, 0x85), 5, 6, 7, 8), P(0, 499), S(0x33, *range(1, 9)), P(1), S(0x33, *range(1, 9)),
+         S(0x23, 1, *range(0x81, 0x85), 5, 6, 7, 8), P(1, 499), P(0), S(0x33, *range(1, 9)), P(0, 2), S(0x30)),
+    case("links_near_a_pulse_end", "one sample before a pulse's end, and one after it",
+         S(0x62, 1), FOURFOLD, S(0x23, 1, *range(0x81, 0x85), 5, 6, 7, 8), P(0, 498), P(1), S(0x33, *range(1, 9)), P(1), S(0x33, *range(1, 9)),
+         S(0x23, 1, *range(0x81, 0x85), 5, 6, 7, 8), P(1, 500), S(0x33, *range(1, 9)), P(0), S(0x33, *range(1, 9)), P(1), S(0x33, *range(1, 9))),
+    case("links_pulse_again", "a pulse begun after the link acted runs its time and turns the output; the link stays",
+         S(0x62, 1), L((1, 1, 1)), watched(1), S(0x23, 1, 1), S(0x33, 1), P(1, 499), S(0x33, 1), P(1), S(0x33, 1), S(0x23, 2, 0x81), P(1, 10),
+         ends(0, 0, 1), S(0x41, 1)),
+    case("links_debounced", "slip: a link by raw bits. Number 3: two differing samples are nothing, an equal one ends the run; the third acts. Number 20: the 20th",
+         S(0x62, 3), L((1, 1, 1), (1, 2, 2), (16, 3, 3)), watched(0x8001, 0x8001, 0, 0x8001, 0x8001, 0x8001),
+         watched(0x8000, 0x8000, 0x8001, 0x8000, 0x8000, 0x8000),
+         S(0x62, 20), P(0x8001, 19), S(0x30), watched(0x8001), P(0x8000, 19), S(0x30), watched(0x8000)),
+    case("links_number_lowered", "the number lowered below a run: the next differing sample is the edge, and the link acts then",
+         L((1, 1, 1)), P(1, 10), S(0x62, 5), S(0x30), watched(1)),
+    case("links_refused_sample", "a sample with a short buffer is none: no edge, no act; the pulse keeps its time",
+         S(0x62, 1), L((1, 1, 1), (2, 2, 2)), S(0x23, 1, 0x81, 0x82), P(3, room=255), P(3, room=0), S(0x33, 1, 2), P(1, room=256), S(0x33, 1, 2),
+         P(3, room=255), S(0x33, 1, 2),
+         P(2, room=257), S(0x33, 1, 2), P(0, room=255), S(0x30)),
+    case("links_of_one_input", "slip: one link for an input. Input 1 has all sixteen outputs; then two of them go to others, and the rest stay",
+         S(0x62, 1), all_links(lambda k: 1), watched(1, 0), L((2, 3, 1), (16, 16, 1)), S(0x41, 0), watched(1, 0x8000, 2, 0x8003)),
+    case("links_of_one_output", "an output has one link: a later one takes its place, and the input before has none with it any more",
+         S(0x62, 1), L((1, 1, 1)), watched(1), L((2, 1, 1)), S(0x41, 1), watched(0, 2, 3, 1), L((2, 1, 2)), S(0x41, 1), watched(3, 1), L((1, 1, 3)),
+         S(0x41, 1), watched(3, 0, 1)),
+    case("links_over", "action 0 takes the link away, and with it the input that 41H shows; its output stays as it is, a pulse goes on; the others keep theirs",
+         S(0x62, 1), L((1, 1, 1), (1, 2, 1), (1, 3, 2)), watched(1), S(0x23, 1, 0x82), L((5, 1, 0), (1, 2, 0)), S(0x41, 1, 2, 3), S(0x33, 1, 2, 3),
+         watched(0, 1), L((1, 3, 0)),
+         S(0x41, 0), watched(0, 1), L((1, 4, 0)), S(0x41, 4)),
+    case("links_many_edges", "edges of several inputs in one sample, some rising and some falling: each link by its own input",
+         S(0x62, 1), L((1, 1, 1), (2, 2, 1), (3, 3, 2), (4, 4, 2), (1, 5, 3), (2, 6, 3), (3, 7, 4), (4, 8, 4), (16, 9, 1), (16, 10, 4)),
+         S(0x20, 0x87, 0x88, 0x8A),
+         watched(0x0005, 0x000A, 0x8005, 0x8005, 0x000F, 0x0000), S(0x20, 0x85, 0x86, 0x87, 0x88, 0x89, 0x8A), watched(0x800A, 0x8005, 0x0000)),
+    case("links_crosswise", "slip: input and output confused, or a neighbour's. Output k by input 17 - k; each input alone goes on, and off as the next one comes",
+         S(0x62, 1), all_links(lambda k: 17 - k), S(0x41, 0), watched(*SINGLY, 0, 0xFFFF, *[0xFFFF ^ b for b in SINGLY], 0)),
+    case("links_crosswise_opposite", "the same, the opposite state; two inputs of a sample each to the other's output",
+         S(0x62, 1), all_links(lambda k: 17 - k, lambda k: 2), watched(0xFFFF, 0xFF00, 0x00FF, 0x0F0F, 0x3333, 0x5555, 0xAAAA, *SINGLY)),
+    case("links_in_a_ring", "output k by input k + 1, output 16 by input 1, and the other way round; the four actions in turn",
+         S(0x62, 1), all_links(lambda k: k % 16 + 1), watched(*SINGLY), all_links(lambda k: (k + 14) % 16 + 1, lambda k: k % 4 + 1), S(0x41, 0),
+         watched(0, *SINGLY, 0xFFFF, 0)),
+    case("links_straight", "output k by input k; then the four actions in turn, from off and from on, by groups of inputs",
+         S(0x62, 1), all_links(lambda k: k), watched(*GROUPS), all_links(lambda k: k, lambda k: (k + 1) % 4 + 1), from_both(*GROUPS)),
+    case("links_apart", "slip: states by the place of an output. Inputs in pairs: one on and one off before, both flip, the links go across",
+         S(0x62, 1), samples(0xAAAA), all_links(lambda k: (k - 1 ^ 1) + 1), watched(0x5555, 0xAAAA),
+         all_links(lambda k: (k - 1 ^ 8) + 1, lambda k: 2 - k % 2),
+         watched(0xA55A, 0x5AA5, 0x00FF, 0xFF00, 0)),
+    case("links_to_the_ends", "inputs and outputs 1 and 16, all four ways, each alone",
+         S(0x62, 1), *[c for i in (1, 16) for o in (1, 16) for c in (L((i, o, 1)), S(0x41, 1, 16), *watched(0x8000, 1, 0), L((i, o, 0)))]),
+    case("links_named_twice", "40H: an output twice takes the last, also where that is action 0, and where the first was; an input may stand twice",
+         S(0x62, 1), L((1, 1, 1), (2, 1, 2)), S(0x41, 1), L((1, 1, 0), (3, 1, 1)), S(0x41, 1), L((2, 1, 1), (2, 1, 0)), S(0x41, 1),
+         L((4, 1, 3), (1, 2, 1), (5, 1, 0), (6, 1, 4)), S(0x41, 1, 2),
+         L((7, 2, 1), (7, 3, 2), (7, 2, 1)), S(0x41, 1, 2, 3), L(*[(k, 5, k % 5) for k in range(1, 13)]), S(0x41, 5),
+         L(*[(k, 5, 1 + k % 4) for k in range(5, 17)]), S(0x41, 5), watched(0x8000, 0x8040)),
+    case("links_lengths", "40H: 1 to 12 groups of three bytes; none, a part of one, 13 groups: 8, before 11 and 14",
+         heat(1), S(0x40), *[S(0x40, *[1] * n) for n in (1, 2, 4, 5, 35, 37, 38, 39)], S(0x40, *[17] * 2), S(0x40, 17, 17, 5, 9), S(0x40, 1, 1, 1, 1),
+         S(0x40, 1, 1),
+         L(*[(1, k, 1) for k in range(2, 15)]), L(*[(17, 0, 9)] * 13), S(0x41, 0), L((1, 2, 1)), L((1, 3, 1), (2, 4, 1)),
+         L(*[(k, k, 1) for k in range(5, 17)]), S(0x41, 0)),
+    case("links_numbers", "40H: input and output 1 to 16, action 0 to 4; 11 beyond, also for an input or output beside action 0; nothing is stored",
+         L((2, 2, 3)), *[L(g) for action in (0, 1, 4) for g in ((0, 1, action), (17, 1, action), (1, 0, action), (1, 17, action), (0x81, 1, action),
+         (1, 0x81, action), (0, 0, action))],
+         *[L(g) for g in ((1, 1, 5), (1, 1, 6), (1, 1, 8), (1, 1, 0x81), (1, 1, 255), (2, 2, 5), (255, 1, 1), (1, 255, 1), (16, 17, 0), (17, 16, 0),
+         (32, 1, 1), (1, 32, 1))],
+         S(0x41, 0), L((16, 16, 4)), L((1, 1, 0)), S(0x41, 0)),
+    case("links_not_stored", "a group at fault first, in the middle or last: 11, and all links are as before, also those that the list would take away",
+         S(0x62, 1), L((1, 1, 1), (2, 2, 2)), *[L(*[g if n == at else good for n, good in enumerate(((3, 1, 2), (1, 2, 0), (4, 3, 1)))])
+                                              for at in (0, 1, 2) for g in ((0, 5, 1), (17, 5, 1), (5, 0, 1), (5, 17, 1), (5, 5, 5), (0, 5, 0),
+                                              (5, 17, 0))],
+         S(0x41, 0), watched(1, 3), L(*[(3, k, 1) for k in range(1, 12)], (3, 12, 5)), L((0, 1, 1), *[(3, k, 1) for k in range(1, 12)]), S(0x41, 0),
+         watched(0)),
+    case("links_or_heat", "14: 40H with action 1 to 4 for an output whose thermostat has F = 1; action 0 is accepted; its neighbours are free, and so is F = 0",
+         heat(5), heat(7, of=IDLE), *[L((1, 5, action)) for action in (1, 2, 3, 4, 0)], S(0x41, 4, 5, 6), L((5, 4, 1), (5, 6, 2), (5, 7, 3)),
+         S(0x41, 4, 5, 6, 7),
+         L((1, 7, 4)), heat(5, of=IDLE), L((1, 5, 2)), S(0x41, 5, 7), S(0x1B, 5, 7)),
+    case("links_or_heat_list", "14 in whichever place of a list, and for whichever output; nothing is stored, and links that would go stay",
+         heat(1, 8, 16), L((1, 2, 1)), L((1, 1, 1), (2, 2, 2), (3, 3, 3)), L((2, 2, 2), (1, 8, 1), (3, 3, 3)), L((2, 2, 0), (3, 3, 3), (1, 16, 1)),
+         L((1, 1, 1)), L((1, 8, 4)), L((16, 16, 3)),
+         L(*[(1, k, 1) for k in range(2, 8)], *[(1, k, 1) for k in range(9, 14)], (1, 16, 1)), L((1, 1, 1), *[(1, k, 1) for k in range(2, 8)]),
+         L((1, 1, 0), (1, 8, 0), (1, 16, 1)), S(0x41, 0),
+         L((1, 1, 0), (1, 8, 0), (1, 16, 0), (3, 15, 1)), S(0x41, 0)),
+    case("links_or_heat_each", "14: each group for itself. Action 1 and then 0 for that output, 0 and then 1: refused both ways; 0 twice is accepted",
+         heat(3), L((1, 3, 1), (1, 3, 0)), L((1, 3, 0), (1, 3, 1)), L((1, 3, 0), (1, 3, 4), (1, 3, 0)), L((1, 3, 0), (2, 3, 0)), S(0x41, 3)),
+    case("links_or_heat_order", "8, then every 11 of the call, then 14: a group at fault before or behind one of 14, or the same group",
+         heat(3), S(0x40, 1, 3, 1, 1), L((1, 3, 1), (1, 17, 1)), L((1, 17, 1), (1, 3, 1)), L((1, 3, 1), (2, 2, 1), (0, 2, 0)), L((17, 3, 1)),
+         L((1, 3, 5)), L((0, 3, 0)), L((1, 3, 0), (1, 2, 5)),
+         L((1, 3, 1), (1, 1, 1)), L((1, 1, 1), (1, 3, 1)), L((1, 3, 1), (17, 1, 0)), S(0x41, 1, 2, 3)),
+    case("links_or_heat_free", "14 goes by F alone, not by 12: a reading within the band, at a fault, beyond; action 0 is never 12",
+         heat(1), L((1, 1, 1)), L((1, 1, 0)), *[c for reading in (T(250), T(301), FAULT, T(200)) for c in (reading, L((1, 1, 3)), L((1, 1, 0)),
+         L((1, 2, 3)))],
+         *[c for f in (0x91, 0xA1, 0xC1, 0xF1, 0x89, 0xB9) for c in (at(f, 1), L((2, 1, 4)), L((2, 1, 0)))], at(0x7F), L((2, 1, 4)), S(0x41, 1, 2)),
+    case("links_or_heat_next", "whichever came later is refused, until the other is gone: by action 0, by F = 0 on either port",
+         L((1, 1, 1)), heat(1), heat(1, of=IDLE), heat(1), four(1, 0x81, 300, 200), L((1, 1, 0)), heat(1), L((1, 1, 1)), four(1, 0x01, 300, 200),
+         L((1, 1, 2)), four(1, 0x81, 300, 200), L((4, 1, 0)),
+         four(1, 0x81, 300, 200), L((1, 1, 2)), heat(1, of=IDLE), L((1, 1, 2)), S(0x41, 1), S(0x1B, 1)),
+    case("links_or_heat_permission", "14 ends the port's permission and no other's; accepted 40H and 41H use it up",
+         heat(1), L((1, 2, 1)), S(0xE4), L((1, 1, 1)), S(0xE0, 0x32, 7), S(0xE4), heat(2), S(0xE0, 0x32, 7), R(6, 0, 0xFF), S(0xE4),
+         four(2, 0x81, 300, 200), R(6, 1, 5), S(0xE0, 0x31, 8),
+         S(0xF0), S(0xE4), L((1, 3, 1)), S(0xE0, 0x32, 7), S(0xE4), S(0x41, 3), S(0xE0, 0x32, 7), S(0xE4), L((1, 3, 5)), S(0xE0, 0x32, 7),
+         R(6, 0, 0xFF), L((1, 1, 1)), R(6, 1, 0x31)),
+    case("links_addressed", "40H and 41H to FE are served and answered from the own address; to all they are refused by 6, and the permission stays",
+         L((1, 1, 1), a=0xFE), S(0x41, 1, a=0xFE), L((1, 1, 5), a=0xFE), heat(2), L((1, 2, 1), a=0xFE), S(0xE4), L((2, 1, 1), a=0xFF),
+         S(0x41, 1, a=0xFF), L((1, 2, 1), a=0xFF), L((1, 2, 1), a=0x32),
+         S(0xE0, 0x32, 7), S(0x41, 1, a=0x32), L((1, 1, 2), a=0x31), L((1, 1, 2), a=0x32), S(0x41, 1, a=0xFE)),
+    case("links_commanded", "a linked output obeys every command, and its link acts at the next edge as before",
+         S(0x62, 1), S(0x26, 1, 3, 1), L((1, 1, 1)), *[c for k, command in enumerate((S(0x20, 1), S(0x23, 1, 0x81), S(0x25, 1), R(6, 500, 0xFF01),
+         W(500, 0x0002), R(5, 0, 0xFF00), C(0, 1, 0),
+           B("OS1H"), B("OT1L1"), B("OST1H1", "$"), S(0x20, 1, a=0xFF), R(5, 0, 0xFF00, a=0))) for c in (P(1 - k % 2), S(0x33, 1), command,
+           S(0x33, 1))], P(1), S(0x33, 1), S(0x41, 1), S(0x36, 1), S(0x38, 1)),
+    case("links_beside_heat", "a link looks at no thermostat: one that holds another output, a stored one with F = 0 on its own; no reading moves or frees it",
+         S(0x62, 1), S(0x1A, *group(2, 0x81, 300, 200, 0, 2), *group(1, 0x01, 300, 200, 0, 2)), L((1, 1, 1), (1, 3, 2)), watched(1), T(301), S(0x30),
+         watched(0), FAULT, S(0x30), watched(1), T(100), S(0x30),
+         watched(0, 1), FAULT, S(0x20, 2), S(0x20, 1), S(0x30), watched(0), S(0x41, 1, 2, 3)),
+    case("links_leave_heat", "and moves no reading, no thermostat: a crossing and an ERR come as without links",
+         S(0x62, 1), L((1, 2, 1), (1, 3, 1)), at(0xC1, 1, 2), T(300), watched(1), T(301), S(0x33, 1, 2, 3), watched(0), S(0x33, 1, 2), S(0x51, 1),
+         FAULT, S(0x33, 1, 2, 3), watched(1)),
+    case("links_noticed", "the notice of the same sample shows the inputs, which links do not change; a link needs no notice, nor its mask; text alike",
+         S(0x62, 1), L((1, 1, 2), (2, 16, 1)), S(0x10, 1, 0, 2, s=7), *[c for b in (1, 3, 2, 0) for c in (P(b), S(0x30))], S(0x10, 0),
+         S(0x10, 1, 0, 0), watched(3), S(0x10, 0), B("IS1"),
+         *[c for b in (0, 2, 3) for c in (P(b), S(0x30))], B("OR1"), B("OR16"), B("IR1")),
+    case("links_shown_everywhere", "what links did is seen by 30H, 33H, coils, registers 500 up and OR alike",
+         S(0x62, 1), L((1, 2, 1), (1, 16, 2), (2, 9, 3), (2, 10, 4)), S(0x20, 0x8A), P(3), S(0x30), S(0x33, 2, 9, 10, 16), R(1, 0, 16), R(3, 501, 1),
+         R(3, 515, 1), B("OR2"), B("OR16"), B("OR9"), P(0), S(0x30), R(1, 0, 16),
+         R(3, 508, 2), B("OR2"), B("OR16")),
+    case("links_count_nothing", "counters are the same with links and without, whatever the modes; reads, deductions and clears take no link away",
+         set_modes(lambda k: k % 4), S(0x62, 1), doors(2, 0xFFFF, 0x0F0F, 0x3300), S(0x60, 0), S(0x60, 0x80),
+         all_links(lambda k: 17 - k, lambda k: k % 4 + 1), samples(0x00FF), S(0x60, 0x80),
+         samples(0x3300), S(0x61, 0), doors(2, 0xFFFF, 0x0F0F, 0x3300), S(0x60, 0), D((1, 1), (2, 1)), W(100, 0, 0), S(0x6A, 1, 3), S(0x62, 2),
+         S(0x41, 0)),
+    case("links_no_counter", "slip: 40H for 60H, 61H or 6AH. Its bytes set no mode, take nothing from a counter and clear none",
+         COUNT3, L((1, 2, 3)), L((2, 1, 0), (1, 1, 2)), S(0x41, 1, 2), S(0x41, 0), S(0x60, 1, 2), S(0x6B, 1, 2)),
+    case("links_after_reset", "E3H keeps links, and stable states: the input is on, the output is off until the next edge; a run begun before does not act",
+         S(0x62, 2), L((1, 1, 1), (1, 2, 2), (1, 3, 3), (1, 4, 4)), P(1), watched(1), P(0), S(0xE3), S(0x41, 0), S(0x30), watched(0), watched(1, 1),
+         S(0x20, 0x83, 0x84), watched(0, 0), S(0xE3), P(1), watched(1)),
+    case("links_no_run", "slip: a link that restarts a run. Number 3: output 1 moves while input 2 has a run of 2; its edge comes with the next sample",
+         S(0x62, 3), L((1, 1, 1), (2, 2, 1), (2, 3, 2)), watched(1, 3, 3, 3, 0, 2, 0, 0, 0, 0)),
+    case("links_turn_by_turn", "one edge after another: a link follows each, 3 stays on and 4 off until someone turns it",
+         S(0x62, 1), L((1, 1, 1), (1, 2, 2), (1, 3, 3), (1, 4, 4), (1, 5, 3), (1, 5, 4)), watched(1, 0, 1, 1, 0, 0, 1), S(0x20, 3, 0x84, 0x85),
+         watched(0, 1, 0)),
+    case("links_or_heat_everywhere", "14 at each of the sixteen outputs: by 1AH and registers 600 up beside each action; by 40H; and none without a link",
+         *all_links(lambda k: 17 - k, lambda k: (k - 1) % 4 + 1), *[c for k in range(1, 17) for c in (heat(k), four(k, 0x81, 300, 200))],
+         *all_links(lambda k: 1, lambda k: 0), heat(*range(1, 13)), heat(*range(13, 17)), *[L((k, k, (k + 1) % 4 + 1)) for k in range(1, 17)], S(0x41, 0)),
+    case("links_longest", "number 255: a link acts at the 255th differing sample, and no earlier one",
+         S(0x62, 255), L((16, 1, 1)), P(0x8000, 254), S(0x30), P(0x8000), S(0x30)),
 ]
 
 # States that no run reaches, the answers typed from docs/DECISIONS.md ----------------------------
@@ -1307,6 +1585,40 @@ UNREACHED = [
           (S(0x36, 1, 2), ack(1, 2, 4, 1)), (S(0x38, 1, 2), ack(1, 4)), (S(0x25, 1, 2), ack()), (S(0x33, 1, 2), ack(1, 2, 2, 1))),
     typed("preset_time_zero", "a preset of type 2 or 3 with time 0 is a plain set", state("presets", "preset 2 0 ∷ preset 3 0 ∷ replicate 14 fresh_preset"),
           (S(0x25, 1, 2), ack()), (S(0x33, 1, 2), ack(0x81, 0, 2, 0)), (P(0), QUIET), (S(0x30), ack(0, 1))),
+    typed("link_action_five", "a link's action above 4 does nothing at an edge, ends no pulse, and shows as it is stored (E8)",
+          state("links", "link 1 5 ∷ link 1 255 ∷ link 2 8 ∷ link 1 6 ∷ link 1 7 ∷ link 1 1 ∷ replicate 10 fresh_link"),
+          (S(0x62, 1), ack()), (S(0x41, 1, 2, 3, 4), ack(1, 5, 1, 255, 2, 8, 1, 6)), (S(0x23, 2, 0x81, 2), ack()), (P(3), QUIET),
+          (S(0x33, 1, 2, 3, 4, 5, 6), ack(0x81, 2, 2, 2, 3, 0, 4, 0, 5, 0, 0x86, 0)),
+          (S(0x20, 0x83, 0x84, 0x85), ack()), (P(0), QUIET), (P(3), QUIET),
+          (S(0x33, 1, 2, 3, 4, 5, 6), ack(0x81, 2, 2, 2, 0x83, 0, 0x84, 0, 0x85, 0, 0x86, 0)),
+          (L((1, 1, 2), (1, 2, 0)), ack()), (S(0x41, 1, 2), ack(1, 2, 0, 0)), (P(0), QUIET), (S(0x33, 1, 2), ack(0x81, 0, 2, 2))),
+    typed("link_input_beyond", "a link's input above 16 has no edge (E8)", state("links", "link 17 1 ∷ link 255 2 ∷ link 32 3 ∷ link 33 1 ∷ link 16 1 ∷ replicate 11 fresh_link"),
+          (S(0x62, 1), ack()), (S(0x20, 0x82), ack()), (P(0xFFFF), QUIET), (S(0x30), ack(0, 0x12)), (P(0), QUIET), (S(0x30), ack(0, 2)),
+          (P(1), QUIET), (S(0x30), ack(0, 2)), (S(0x20, 0x81, 2), ack()), (P(0), QUIET), (S(0x30), ack(0, 1)),
+          (S(0x41, 1, 2), ack(17, 1, 255, 2))),
+    typed("link_idle", "a link of action 0 is none, whatever its input, and shows as it is stored; one of an action above 4 is one (E8)",
+          state("links", "link 5 0 ∷ link 0 1 ∷ link 3 5 ∷ link 1 9 ∷ replicate 12 fresh_link"),
+          (S(0x41, 1, 2, 3, 4), ack(5, 0, 0, 1, 3, 5, 1, 9)), (S(0x62, 1), ack()), (P(1), QUIET), (S(0x30), ack(0, 2)), (P(0), QUIET), (S(0x30), ack(0, 0)),
+          (heat(2), nack(14, 3)), (four(2, 0x81, 300, 200), modbus_nack(14, 0x10, 4)), (heat(3), nack(14, 3)), (four(3, 0x81, 300, 200), modbus_nack(14, 0x10, 4)),
+          (heat(1), ack()), (S(0x41, 1), ack(5, 0))),
+    typed("links_lacking", "a link that the list lacks is none, and stores nothing (E8)", state("links", "[]"),
+          (S(0x41, 1, 16), ack(0, 0, 0, 0)), (L((1, 1, 1)), ack()), (S(0x41, 1), ack(0, 0)), (S(0x62, 1), ack()), (P(1), QUIET), (S(0x30), ack(0, 0)),
+          (heat(1), ack())),
+    typed("links_and_other_heat", "F = 1 alone makes a thermostat active: with sensor 0 or 3, TEMPx below TEMPy, ERR 3, TIME 0 (E8)",
+          state("thermostats", "thermostat 0x80 (pos 300) (pos 200) 0 0 ∷ thermostat 0x83 (pos 300) (pos 200) 0 0 ∷ thermostat 0x81 (pos 200) (pos 300) 0 0 ∷ thermostat 0xC1 (pos 300) (pos 200) 0 3 ∷ thermostat 0x7F (pos 300) (pos 200) 9 3 ∷ replicate 11 fresh_thermostat"),
+          (L((1, 1, 1)), nack(14, 3)), (L((1, 2, 2)), nack(14, 3)), (L((1, 3, 3)), nack(14, 3)), (L((1, 4, 4)), nack(14, 3)), (L((1, 5, 1)), ack())),
+    typed("link_input_zero", "a link's input 0 goes as input 1 (E8)", state("links", "link 0 1 ∷ link 0 2 ∷ link 0 3 ∷ link 0 4 ∷ replicate 12 fresh_link"),
+          (S(0x62, 1), ack()), (S(0x20, 0x84), ack()), (P(1), QUIET), (S(0x30), ack(0, 5)), (P(2), QUIET), (S(0x30), ack(0, 6)), (P(0x8002), QUIET),
+          (S(0x30), ack(0, 6)), (P(0x8000), QUIET), (S(0x30), ack(0, 6)),
+          (S(0x41, 1), ack(0, 1))),
+    typed("link_and_heat", "an active thermostat and a link on one output: both act (E8); 14 for what would set either anew, until one is gone; other outputs are free",
+          "(with_thermostats (with_links fresh_module (fresh_link ∷ link 1 1 ∷ replicate 14 fresh_link)) (fresh_thermostat ∷ thermostat 0x81 (pos 300) (pos 200) 0 2 ∷ replicate 14 fresh_thermostat))",
+          (S(0x62, 1), ack()), (P(1), QUIET), (S(0x30), ack(0, 2)), (T(199), QUIET), (S(0x30), ack(0, 0)), (P(0), QUIET), (P(1), QUIET),
+          (S(0x30), ack(0, 2)), (S(0x20, 2), nack(12, 3)), (P(0), QUIET), (S(0x30), ack(0, 0)),
+          (FAULT, QUIET), (S(0x30), ack(0, 2)), (heat(2), nack(14, 3)), (four(2, 0x81, 300, 200), modbus_nack(14, 0x10, 4)),
+          (L((1, 2, 1)), nack(14, 3)), (heat(1, 3), ack()), (L((1, 4, 1)), ack()),
+          (S(0x41, 2, 4), ack(1, 1, 1, 1)), (L((1, 2, 0)), ack()), (heat(2), ack()), (S(0x41, 2), ack(0, 0)), (T(199), QUIET), (P(1), QUIET),
+          (S(0x30), ack(0, 8)), (L((1, 2, 1)), nack(14, 3))),
     typed("time_zero", "a thermostat's pulse of TIME 0 is a plain set", state("thermostats", "thermostat 0xC1 (pos 300) (pos 200) 0 0 ∷ replicate 15 fresh_thermostat"),
           (T(300), QUIET), (T(301), QUIET), (S(0x33, 1), ack(0x81, 0))),
     typed("limits_exchanged", "TEMPx below TEMPy: above TEMPx goes first; it holds at every reading",
@@ -1418,6 +1730,14 @@ TALLIES = [
             X(0x60, 0x82), X(0x61, 0), X(0xE3), S(0xE4), X(0xE0, 0x31, 6)] + samples(0), [(1, 4, 1), (2, 4, 0)]),
     tallied("sum_test_turned", "EEH and FEH change nothing: a run of 1, number 2, goes on", COUNT3 + [D((1, 1)), S(0x62, 2)] + samples(0) + UNTESTED
             + [S(0xFE), S(0xEE, 1), S(0xE4), S(0xEE, 1), S(0xFE)] + samples(0), [(1, 4, 1), (2, 4, 0)]),
+    tallied("links_change_nothing", "40H and 41H (E8) change nothing, accepted or refused: a run of 1, number 2, goes on; edges are counted once beside links",
+            COUNT3 + [D((1, 1)), S(0x62, 2)] + samples(0) + [S(0x40, 1, 1, 1, 2, 2, 2), S(0x40, 1, 3, 5), S(0x41, 0), S(0x41, 1, 2), S(0x41),
+            S(0x1A, *group(1, 0x81, 300, 200)), S(0x40, 1, 1, 1, a=0xFF)]
+            + samples(0) + [S(0x62, 1)] + samples(3, 0, 1), [(1, 7, 1), (2, 6, 0)]),
+    tallied("links_no_counts", "a 40H whose bytes look like 61H, 60H, 6AH or 62H (E8) is none of them, and an output turned by a link is no edge",
+            COUNT3 + [S(0x40, 1, 1, 2), S(0x40, 1, 2, 0), S(0x40, 2, 1, 1, 1, 2, 3), S(0x40, *[1, 1, 1] * 5), S(0x40, 1, 0, 0), S(0x40, 0),
+            S(0x40, 2), S(0x41, 1), S(0x41, 0), S(0x40, 1, 0, 0, 0, 1, 1)]
+            + samples(3, 0), [(1, 4, 0), (2, 4, 0), (3, 0, 0)]),
     tallied("text_changes_nothing", "accepted texts (E2) but AS and SS change nothing: a run of 1, number 2, goes on",
             COUNT3 + [D((1, 1)), S(0x62, 2)] + samples(0) + [T(291)]
             + texts("IR: 1 016", "OR: 1 16", "OS: 1H 01L 016H", "OT: 1H1 16L255", "OST: 1H1 02L020", "RT: 1 001", "IS1", "IX", "IS0", "E", "E")
@@ -1452,9 +1772,9 @@ TALLIES = [
 
 # every part of the state, each shown by a number of its own
 PARTS = """stable run modes counters sampling outputs presets thermostats reading last format mask signature sum_tested spinel_address spinel_speed
-spinel_permission modbus_address modbus_speed modbus_permission""".split()
+spinel_permission modbus_address modbus_speed modbus_permission links""".split()
 ZEROED = "run counters outputs spinel_permission modbus_permission"
-BY_SPINEL = {0x10: "format mask signature", 0x1A: "thermostats", 0x20: "outputs", 0x23: "outputs", 0x25: "outputs", 0x26: "presets",
+BY_SPINEL = {0x10: "format mask signature", 0x1A: "thermostats", 0x20: "outputs", 0x23: "outputs", 0x25: "outputs", 0x26: "presets", 0x40: "links",
              0x60: "counters", 0x61: "counters", 0x62: "sampling", 0x6A: "modes", 0xE0: ZEROED + " spinel_address spinel_speed", 0xE3: ZEROED,
              0xEE: "sum_tested"}
 BY_REGISTER = {**dict.fromkeys((1, 2), ZEROED + " modbus_address modbus_speed"), **dict.fromkeys((100, 115, 200, 215), "counters"),
@@ -1493,7 +1813,8 @@ def by_modbus(name, call, changed=""):
 
 LEFT = [
     leaving("sample", P(0), "stable run counters outputs"), leaving("temperature", T(0), "reading last outputs"),
-    *[by_spinel(code) for code in (0x0F, 0x10, 0x11, 0x1A, 0x1B, 0x20, 0x22, 0x23, 0x24, 0x25, 0x26, 0x30, 0x51, 0x60, 0x61, 0x62, 0x63, 0x6A,
+    *[by_spinel(code) for code in (0x0F, 0x10, 0x11, 0x1A, 0x1B, 0x20, 0x22, 0x23, 0x24, 0x25, 0x26, 0x30, 0x3F, 0x40, 0x41, 0x42, 0x51, 0x60, 0x61,
+    0x62, 0x63, 0x6A,
                                    0x6B, 0xDF, 0xE0, 0xE1, 0xE3, 0xE4, 0xED, 0xEE, 0xEF, 0xF0, 0xFD, 0xFE, 0xFF)],
     *[leaving("text_" + name, B(text), changed + " spinel_permission") for name, text, changed in BY_TEXT],
     leaving("code_like_text", LIKE_TEXT, "counters spinel_permission"),
@@ -1505,7 +1826,7 @@ LEFT = [
 
 # accepted, each of these resets or does not
 RESETS = [
-    *[(named("by", code), S(code), code in (0xE0, 0xE3)) for code in (0xDF, 0xE0, 0xE1, 0xE2, 0xE3, 0xE4, 0xEE, 0xFE)],
+    *[(named("by", code), S(code), code in (0xE0, 0xE3)) for code in (0x40, 0x41, 0xDF, 0xE0, 0xE1, 0xE2, 0xE3, 0xE4, 0xEE, 0xFE)],
     *[("by_register_%d" % r, R(6, r, 0), r in (1, 2)) for r in (0, 1, 2, 3)], *[("by_several_%d" % r, W(r, 0), r in (1, 2)) for r in (0, 1, 2, 3)],
     ("by_read", R(3, 1, 1), False), ("by_coil", R(5, 1, 0), False), ("by07", M(7, 0, 1, 0, 0), False), ("by_coils", C(1, 1, 0), False),
     ("by11", M(0x11, 0, 1, 0, 0), False), ("by_sample", P(0), False), ("by_temperature", T(0), False),
@@ -1515,22 +1836,24 @@ RESETS = [
 
 # One input alone (E3): its accepted bits, and what a module holds of it after some samples -----------------------------
 
-def around(number, outputs, presets, thermostats, notice, readings, tested, *ports):
+def around(number, outputs, presets, links, thermostats, notice, readings, tested, *ports):
     """A module of the reference whose inputs are fresh."""
     m = reference.Module()
-    for out, pulse, preset, thermostat in zip(m.out, outputs, presets, thermostats):
-        (out.on, out.left), (out.ptype, out.ptime), out.th = pulse, preset, thermostat
+    for out, pulse, preset, link, thermostat in zip(m.out, outputs, presets, links, thermostats):
+        (out.on, out.left), (out.ptype, out.ptime), out.link, out.th = pulse, preset, link, thermostat
     m.n, (m.notice, m.mask, m.sig), (m.reading, m.last), m.tested = number, notice, readings, tested
     (m.sa, m.ss, m.sp), (m.ma, m.ms, m.mp) = ports
     return m
 
 
-# what the inputs stand among: outputs and their pulses, presets, thermostats, the notice, readings, the ports
+# what the inputs stand among: outputs and their pulses, presets, links, thermostats, the notice, readings, the ports
 AROUND = {
     "fresh_module": reference.Module(),
-    "busy": around(1, [(1, 2), (0, 1), (1, 0)], [(2, 5), (3, 255), (0, 9)], [(0x81, 300, 200, 0, 1), (0xD1, 0, -5, 9, 2), (0x29, 5, 5, 1, 0)],
+    "busy": around(1, [(1, 2), (0, 1), (1, 0)], [(2, 5), (3, 255), (0, 9)], [(0, 0), (16, 4), (1, 1)],
+                   [(0x81, 300, 200, 0, 1), (0xD1, 0, -5, 9, 2), (0x29, 5, 5, 1, 0)],
                    (reference.BINARY, 0xFFFF, 7), (250, 250), False, (0x32, 7, True), (5, 3, True)),
-    "hot": around(3, [(0, 500), (1, 3), (0, 0)], [(0, 0), (2, 1), (3, 3)], [(0xA9, 250, 200, 0, 2), (0, 1, 2, 3, 2), (0x81, -1, -2, 0, 0)],
+    "hot": around(3, [(0, 500), (1, 3), (0, 0)], [(0, 0), (2, 1), (3, 3)], [(8, 2), (1, 3), (5, 1)],
+                  [(0xA9, 250, 200, 0, 2), (0, 1, 2, 3, 2), (0x81, -1, -2, 0, 0)],
                   (reference.BINARY, 0x0110, 0x5A), (None, 301), True, (0x31, 6, False), (0x31, 6, True)),
 }
 
@@ -1546,10 +1869,15 @@ def joined(items):
     return text or "[]"
 
 
-def standing(place, number, k, own, others):
-    """A module as antt and in the reference: one of AROUND with these inputs, each in four parts: is it on, its run, its mode, its counter."""
+def standing(place, number, k, own, others, links=None):
+    """A module as antt and in the reference: one of AROUND with these inputs, each in four parts: is it on, its run, its mode, its counter; and
+    with other links, if they are given."""
     fours = [own if j == k else others(j) for j in range(1, 17)]
     m = copy.deepcopy(AROUND[place])
+    if links:
+        place = f"(with_links {place} ({joined('link %d %d' % link for link in links)}))"
+        for out, link in zip(m.out, links):
+            out.link = link
     m.n = number
     m.stable, m.run, m.mode, m.cnt = (list(part) for part in zip(*fours))
     lines = ["line %s %d" % ("true" if stable else "false", run) for stable, run, *_ in fours]

@@ -1,6 +1,7 @@
 #!/usr/bin/env python3
 """Writes the tables of closed cases of crates/model/proofs: Computing, RackTable, Witnesses, FrameTable, SampleTable, CounterTable,
-PortTable, OutputTable, NoticeTable, ThermostatTable, RegisterTable, CoilTable, TextTable, UnreachedTable, TallyTable, ClaimTable, AloneTable.
+PortTable, OutputTable, NoticeTable, ThermostatTable, RegisterTable, CoilTable, TextTable, LinkTable, UnreachedTable, TallyTable, ClaimTable,
+AloneTable.
 
 Usage:  reference/tables.py         writes them as rt fmt lays them out
         reference/tables.py --count prints how many rows there are
@@ -19,7 +20,7 @@ import rows
 
 ROOT = os.path.dirname(os.path.dirname(os.path.abspath(__file__)))
 PROOFS = os.path.join(ROOT, "crates/model/proofs/")
-SPECS = """State Times Samples Frames Refusals Wire Counters SumTest Temperature Outputs Text Notice Registers Spinel Modbus Call Calls Demand1 Tally
+SPECS = """State Times Samples Frames Refusals Wire Counters SumTest Temperature Links Outputs Text Notice Registers Spinel Modbus Call Calls Demand1 Tally
 Cycles Parts Alone""".split()
 LISTS = "Tests Mapi Walk Numbers Chunks Entries".split()
 TEXT = [0x2A, 0x42]  # what a text begins with
@@ -231,6 +232,7 @@ abbrev {name} : Module
     modes = fresh_module.settings.modes;
     sampling = {m.n};
     presets = {kept("preset", [(out.ptype, out.ptime) for out in m.out])};
+    links = {kept("link", [out.link for out in m.out])};
     thermostats = {kept("thermostat", thermostats)};
     notice = notice {hexed(m.notice)} 0x{m.mask:04X} {hexed(m.sig)};
     sum_tested = {said(m.tested)};
@@ -251,8 +253,8 @@ PLACES = {
     "[]": "mathlib.Core.List", "◌∷◌": "mathlib.Core.List", "◌++◌": "mathlib.Core.List", "List": "mathlib.Core.List", "map": "mathlib.Core.List",
     "flat_map": "mathlib.Core.List", "replicate": "lib.ListN", "pos": "lib.IntN", "negsuc": "lib.IntN",
     **{n: "Rattle.model.specs.State" for n in """fresh_module with_inputs with_sampling with_modes with_counters with_outputs with_presets
-       with_thermostats with_reading with_notice with_sum_tested with_spinel with_modbus line output preset thermostat notice port fresh_line fresh_output
-       fresh_preset fresh_thermostat""".split()},
+       with_links with_thermostats with_reading with_notice with_sum_tested with_spinel with_modbus line output preset link thermostat notice port
+       fresh_line fresh_output fresh_preset fresh_link fresh_thermostat""".split()},
     "Valid": "Rattle.model.specs.declared.Reading.TheVariants", "of_bits": "lib.Ieee", "binary32": "lib.Ieee",
     "Call": "Rattle.model.specs.Call", "Tally": "Rattle.model.specs.Tally", "final_tally": "Rattle.model.specs.Cycles",
     "run": "Rattle.model.specs.Calls", "computing": "Rattle.model.proofs.Computing", "unchecked": "Rattle.model.proofs.Computing",
@@ -337,7 +339,7 @@ Tallies calls rows = map (λ (r : Row). held (final_tally calls) r.input) rows �
 """
 
 
-CLAIM_BEFORE = """-- a state of which every part shows a number of its own, 1 to 20
+CLAIM_BEFORE = """-- a state of which every part shows a number of its own, 1 to 21
 abbrev marked : Module
 marked = record {
   inputs = record { lines = line true 2 ∷ []; counters = 4 ∷ [] };
@@ -346,6 +348,7 @@ marked = record {
     modes = 3 ∷ [];
     sampling = 5;
     presets = preset 7 7 ∷ [];
+    links = link 21 21 ∷ [];
     thermostats = thermostat 8 (pos 8) (pos 8) 8 8 ∷ [];
     notice = notice 11 12 13;
     sum_tested = true;
@@ -379,6 +382,7 @@ parts m =
     ∷ m.modbus.address
     ∷ m.modbus.speed
     ∷ cond m.modbus.permitted 20 0
+    ∷ (get_or m.settings.links 0 fresh_link).action
     ∷ []
 
 -- what a call leaves of it
@@ -449,6 +453,7 @@ TABLES = [
     ("RegisterTable", "01, Registers: 03 06 10H on every group, on both sides of it.", rows.REGISTERS),
     ("CoilTable", "01, Registers: 01 02 05 0F.", rows.COILS),
     ("TextTable", "02, E2: frames in characters, their codes, limits, permission and notice.", rows.TEXTS),
+    ("LinkTable", "02, E8: inputs that drive outputs: 40H 41H, what a link does at an edge, and refusal 14.", rows.LINKS),
     ("UnreachedTable", "States that no run reaches: what the definitions say of them, as docs/DECISIONS.md tells.", rows.UNREACHED),
 ]
 

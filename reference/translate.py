@@ -16,8 +16,8 @@ ROOT = os.path.dirname(os.path.dirname(os.path.abspath(__file__)))
 FOLDERS = {"lists": "crates/lists/specs", "model": "crates/model/specs", "proofs": "crates/model/proofs"}
 FILES = {
     "lists": "Tests Mapi Walk Numbers Chunks Entries Data".split(),
-    "model": """State Times Samples Frames Refusals Wire Counters SumTest Temperature Outputs Text Notice Registers Spinel Modbus Call Calls
-             Demand1 Tally Cycles Parts Alone""".split(),
+    "model": """State Times Samples Frames Refusals Wire Counters SumTest Temperature Links Outputs Text Notice Registers Spinel Modbus Call Calls
+             Demand1 Tally Cycles Parts Alone Linked""".split(),
     "proofs": "Exchanges Wraps Readings Puts GroupTable ClaimTable AloneTable".split(),
 }
 # definitions by `Bounded.added`, which serve the code alone

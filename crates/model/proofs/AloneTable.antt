@@ -5,8 +5,8 @@ use mathlib.Core.Path.{refl, ◌≡◌}
 use mathlib.Core.List.{[], ◌∷◌, ◌++◌, List}
 use lib.ListN.{replicate}
 use lib.IntN.{pos, negsuc}
-use Rattle.model.specs.State.{fresh_module, with_inputs, with_sampling, with_modes, line, output, preset, thermostat, notice, port, fresh_output}
-use Rattle.model.specs.State.{fresh_preset, fresh_thermostat}
+use Rattle.model.specs.State.{fresh_module, with_inputs, with_sampling, with_modes, line, output, preset, link, thermostat, notice, port}
+use Rattle.model.specs.State.{fresh_output, fresh_preset, fresh_link, fresh_thermostat}
 use Rattle.model.specs.declared.Reading.TheVariants.{Valid, Fault}
 use lib.Ieee.{of_bits, binary32}
 use Rattle.model.specs.Cycles.{counter_of}
@@ -36,6 +36,7 @@ busy = record {
     modes = fresh_module.settings.modes;
     sampling = 1;
     presets = preset 2 5 ∷ preset 3 255 ∷ preset 0 9 ∷ replicate 13 fresh_preset;
+    links = fresh_link ∷ link 16 4 ∷ link 1 1 ∷ replicate 13 fresh_link;
     thermostats = thermostat 0x81 (pos 300) (pos 200) 0 1 ∷ thermostat 0xD1 (pos 0) (negsuc 4) 9 2 ∷ thermostat 0x29 (pos 5) (pos 5) 1 0 ∷ replicate 13 fresh_thermostat;
     notice = notice 0x61 0xFFFF 0x07;
     sum_tested = false;
@@ -55,6 +56,7 @@ hot = record {
     modes = fresh_module.settings.modes;
     sampling = 3;
     presets = fresh_preset ∷ preset 2 1 ∷ preset 3 3 ∷ replicate 13 fresh_preset;
+    links = link 8 2 ∷ link 1 3 ∷ link 5 1 ∷ replicate 13 fresh_link;
     thermostats = thermostat 0xA9 (pos 250) (pos 200) 0 2 ∷ thermostat 0x00 (pos 1) (pos 2) 3 2 ∷ thermostat 0x81 (negsuc 0) (negsuc 1) 0 0 ∷ replicate 13 fresh_thermostat;
     notice = notice 0x61 0x0110 0x5A;
     sum_tested = true;

@@ -694,6 +694,52 @@ pub record RegisterTable : Type 0 where
       (written 628 (137 ∷ 300 ∷ 200 ∷ 2 ∷ []) ⇒ echoes 0x10 628 4) ∷
       (asked 0x33 (0x05 ∷ 0x06 ∷ 0x07 ∷ 0x08 ∷ []) ⇒ answers (0x85 ∷ 0x02 ∷ 0x06 ∷ 0x02 ∷ 0x07 ∷ 0x02 ∷ 0x88 ∷ 0x02 ∷ [])) ∷
       [])
+  -- 14 (E8), exception 04: 600 up with F = 1 for an output with a link; F = 0 is stored; its neighbours are free; the same answers as by 1AH
+  pub heat_or_link_written : Plays fresh_module (
+      (asked 0x40 (0x01 ∷ 0x02 ∷ 0x01 ∷ 0x02 ∷ 0x10 ∷ 0x04 ∷ 0x03 ∷ 0x07 ∷ 0x02 ∷ []) ⇒ answers []) ∷
+      (written 604 (129 ∷ 300 ∷ 200 ∷ 0 ∷ []) ⇒ excepts 14 0x90 0x04) ∷
+      (written 660 (129 ∷ 300 ∷ 200 ∷ 0 ∷ []) ⇒ excepts 14 0x90 0x04) ∷
+      (written 624 (129 ∷ 300 ∷ 200 ∷ 0 ∷ []) ⇒ excepts 14 0x90 0x04) ∷
+      (written 600 (129 ∷ 300 ∷ 200 ∷ 0 ∷ []) ⇒ echoes 0x10 600 4) ∷
+      (written 608 (129 ∷ 300 ∷ 200 ∷ 0 ∷ []) ⇒ echoes 0x10 608 4) ∷
+      (written 620 (129 ∷ 300 ∷ 200 ∷ 0 ∷ []) ⇒ echoes 0x10 620 4) ∷
+      (written 628 (129 ∷ 300 ∷ 200 ∷ 0 ∷ []) ⇒ echoes 0x10 628 4) ∷
+      (written 656 (129 ∷ 300 ∷ 200 ∷ 0 ∷ []) ⇒ echoes 0x10 656 4) ∷
+      (written 604 (193 ∷ 300 ∷ 200 ∷ 256 ∷ []) ⇒ excepts 14 0x90 0x04) ∷
+      (written 660 (137 ∷ 300 ∷ 200 ∷ 256 ∷ []) ⇒ excepts 14 0x90 0x04) ∷
+      (written 604 (185 ∷ 300 ∷ 200 ∷ 256 ∷ []) ⇒ excepts 14 0x90 0x04) ∷
+      (written 660 (145 ∷ 300 ∷ 200 ∷ 256 ∷ []) ⇒ excepts 14 0x90 0x04) ∷
+      (written 604 (1 ∷ 300 ∷ 200 ∷ 0 ∷ []) ⇒ echoes 0x10 604 4) ∷
+      (written 660 (127 ∷ 0xFF38 ∷ 300 ∷ 0 ∷ []) ⇒ echoes 0x10 660 4) ∷
+      (requested 0x03 600 4 ⇒ shows 0x03 (129 ∷ 300 ∷ 200 ∷ 0 ∷ [])) ∷
+      (requested 0x03 604 4 ⇒ shows 0x03 (1 ∷ 300 ∷ 200 ∷ 0 ∷ [])) ∷
+      (requested 0x03 660 4 ⇒ shows 0x03 (127 ∷ 0xFF38 ∷ 300 ∷ 0 ∷ [])) ∷
+      (temperature_of true (pos 301) ⇒ silently 0) ∷
+      (requested 0x01 0 16 ⇒ gives 0x01 (0x02 ∷ 0xA5 ∷ 0x40 ∷ [])) ∷
+      (asked 0x40 (0x01 ∷ 0x02 ∷ 0x00 ∷ []) ⇒ answers []) ∷
+      (written 604 (129 ∷ 300 ∷ 200 ∷ 0 ∷ []) ⇒ echoes 0x10 604 4) ∷
+      (written 660 (129 ∷ 300 ∷ 200 ∷ 0 ∷ []) ⇒ excepts 14 0x90 0x04) ∷
+      (asked 0x1B (0x02 ∷ 0x10 ∷ []) ⇒ answers (0x02 ∷ 0x81 ∷ 0x01 ∷ 0x2C ∷ 0x00 ∷ 0xC8 ∷ 0x00 ∷ 0x00 ∷ 0x10 ∷ 0x7F ∷ 0xFF ∷ 0x38 ∷ 0x01 ∷
+      0x2C ∷ 0x00 ∷ 0x00 ∷ [])) ∷
+      (asked 0x41 (0x02 ∷ 0x10 ∷ []) ⇒ answers (0x00 ∷ 0x00 ∷ 0x02 ∷ 0x04 ∷ [])) ∷
+      [])
+  -- 8, 9 and 11 come before 14 (E8): another length, another count, misaligned, another sensor, limits, a TIME, ERR, a high byte; nothing is stored
+  pub heat_or_link_written_order : Plays fresh_module (
+      (asked 0x40 (0x01 ∷ 0x02 ∷ 0x01 ∷ []) ⇒ answers []) ∷
+      (sent 0x10 (0x02 ∷ 0x5C ∷ 0x00 ∷ 0x04 ∷ 0x07 ∷ 0x00 ∷ 0x81 ∷ 0x01 ∷ 0x2C ∷ 0x00 ∷ 0xC8 ∷ 0x01 ∷ []) ⇒ excepts 8 0x90 0x03) ∷
+      (written 605 (129 ∷ 300 ∷ 200 ∷ 0 ∷ []) ⇒ excepts 9 0x90 0x02) ∷
+      (written 604 (129 ∷ 300 ∷ 200 ∷ []) ⇒ excepts 9 0x90 0x02) ∷
+      (requested 0x06 604 129 ⇒ excepts 9 0x86 0x02) ∷
+      (written 604 (130 ∷ 300 ∷ 200 ∷ 0 ∷ []) ⇒ excepts 11 0x90 0x03) ∷
+      (written 604 (129 ∷ 200 ∷ 201 ∷ 0 ∷ []) ⇒ excepts 11 0x90 0x03) ∷
+      (written 604 (193 ∷ 300 ∷ 200 ∷ 0 ∷ []) ⇒ excepts 11 0x90 0x03) ∷
+      (written 604 (201 ∷ 300 ∷ 200 ∷ 256 ∷ []) ⇒ excepts 11 0x90 0x03) ∷
+      (written 604 (129 ∷ 300 ∷ 200 ∷ 3 ∷ []) ⇒ excepts 11 0x90 0x03) ∷
+      (written 604 (385 ∷ 300 ∷ 200 ∷ 0 ∷ []) ⇒ excepts 11 0x90 0x03) ∷
+      (written 604 (129 ∷ 300 ∷ 200 ∷ 0 ∷ []) ⇒ excepts 14 0x90 0x04) ∷
+      (sent_to 0x00 0x10 (0x02 ∷ 0x5C ∷ 0x00 ∷ 0x04 ∷ 0x08 ∷ 0x00 ∷ 0x81 ∷ 0x01 ∷ 0x2C ∷ 0x00 ∷ 0xC8 ∷ 0x00 ∷ 0x00 ∷ []) ⇒ silently 6) ∷
+      (requested 0x03 604 4 ⇒ shows 0x03 (0 ∷ 0 ∷ 0 ∷ 0 ∷ [])) ∷
+      [])
   -- 600 up: 06, another count, misaligned, beside the group: 9
   pub thermostat_range : Plays fresh_module (
       (requested 0x06 600 129 ⇒ excepts 9 0x86 0x02) ∷
@@ -824,6 +870,8 @@ register_table = record {
   actions_written = passed _ _ _ (simp eqb_same) refl;
   actions_not_written = passed _ _ _ (simp eqb_same) refl;
   bands_written_quiet = passed _ _ _ (simp eqb_same) refl;
+  heat_or_link_written = passed _ _ _ (simp eqb_same) refl;
+  heat_or_link_written_order = passed _ _ _ (simp eqb_same) refl;
   thermostat_range = passed _ _ _ (simp eqb_same) refl;
   write_nowhere = passed _ _ _ (simp eqb_same) refl;
   write_lengths = passed _ _ _ (simp eqb_same) refl;

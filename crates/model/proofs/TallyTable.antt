@@ -493,6 +493,51 @@ pub record TallyTable : Type 0 where
       sample_of 0 ∷
       [])
       (account 1 4 1 ∷ account 2 4 0 ∷ [])
+  -- 40H and 41H (E8) change nothing, accepted or refused: a run of 1, number 2, goes on; edges are counted once beside links
+  pub links_change_nothing : Tallies (
+      asked 0x6A (0x01 ∷ 0x03 ∷ 0x02 ∷ 0x03 ∷ []) ∷
+      asked 0x62 (0x01 ∷ []) ∷
+      sample_of 3 ∷
+      sample_of 0 ∷
+      sample_of 3 ∷
+      asked 0x61 (0x01 ∷ 0x00 ∷ 0x00 ∷ 0x00 ∷ 0x01 ∷ []) ∷
+      asked 0x62 (0x02 ∷ []) ∷
+      sample_of 0 ∷
+      asked 0x40 (0x01 ∷ 0x01 ∷ 0x01 ∷ 0x02 ∷ 0x02 ∷ 0x02 ∷ []) ∷
+      asked 0x40 (0x01 ∷ 0x03 ∷ 0x05 ∷ []) ∷
+      asked 0x41 (0x00 ∷ []) ∷
+      asked 0x41 (0x01 ∷ 0x02 ∷ []) ∷
+      asked 0x41 [] ∷
+      asked 0x1A (0x01 ∷ 0x81 ∷ 0x01 ∷ 0x2C ∷ 0x00 ∷ 0xC8 ∷ 0x00 ∷ 0x00 ∷ []) ∷
+      asked_at 0xFF 0x40 (0x01 ∷ 0x01 ∷ 0x01 ∷ []) ∷
+      sample_of 0 ∷
+      asked 0x62 (0x01 ∷ []) ∷
+      sample_of 3 ∷
+      sample_of 0 ∷
+      sample_of 1 ∷
+      [])
+      (account 1 7 1 ∷ account 2 6 0 ∷ [])
+  -- a 40H whose bytes look like 61H, 60H, 6AH or 62H (E8) is none of them, and an output turned by a link is no edge
+  pub links_no_counts : Tallies (
+      asked 0x6A (0x01 ∷ 0x03 ∷ 0x02 ∷ 0x03 ∷ []) ∷
+      asked 0x62 (0x01 ∷ []) ∷
+      sample_of 3 ∷
+      sample_of 0 ∷
+      sample_of 3 ∷
+      asked 0x40 (0x01 ∷ 0x01 ∷ 0x02 ∷ []) ∷
+      asked 0x40 (0x01 ∷ 0x02 ∷ 0x00 ∷ []) ∷
+      asked 0x40 (0x02 ∷ 0x01 ∷ 0x01 ∷ 0x01 ∷ 0x02 ∷ 0x03 ∷ []) ∷
+      asked 0x40 (replicate 15 0x01) ∷
+      asked 0x40 (0x01 ∷ 0x00 ∷ 0x00 ∷ []) ∷
+      asked 0x40 (0x00 ∷ []) ∷
+      asked 0x40 (0x02 ∷ []) ∷
+      asked 0x41 (0x01 ∷ []) ∷
+      asked 0x41 (0x00 ∷ []) ∷
+      asked 0x40 (0x01 ∷ 0x00 ∷ 0x00 ∷ 0x00 ∷ 0x01 ∷ 0x01 ∷ []) ∷
+      sample_of 3 ∷
+      sample_of 0 ∷
+      [])
+      (account 1 4 0 ∷ account 2 4 0 ∷ account 3 0 0 ∷ [])
   -- accepted texts (E2) but AS and SS change nothing: a run of 1, number 2, goes on
   pub text_changes_nothing : Tallies (
       asked 0x6A (0x01 ∷ 0x03 ∷ 0x02 ∷ 0x03 ∷ []) ∷
@@ -726,6 +771,8 @@ tally_table = record {
   any_sum_readdressed = refl;
   wrong_sum = refl;
   sum_test_turned = refl;
+  links_change_nothing = refl;
+  links_no_counts = refl;
   text_changes_nothing = refl;
   text_readdressed = refl;
   text_speed_set = refl;

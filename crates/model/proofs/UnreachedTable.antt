@@ -4,14 +4,15 @@ use mathlib.Core.Path.{refl}
 use mathlib.Core.List.{[], ◌∷◌}
 use lib.ListN.{replicate}
 use lib.IntN.{pos}
-use Rattle.model.specs.State.{fresh_module, with_inputs, with_sampling, with_modes, with_presets, with_thermostats, with_reading, with_notice}
-use Rattle.model.specs.State.{with_spinel, with_modbus, line, preset, thermostat, notice, port, fresh_line, fresh_preset, fresh_thermostat}
+use Rattle.model.specs.State.{fresh_module, with_inputs, with_sampling, with_modes, with_presets, with_links, with_thermostats, with_reading}
+use Rattle.model.specs.State.{with_notice, with_spinel, with_modbus, line, preset, link, thermostat, notice, port, fresh_line, fresh_preset}
+use Rattle.model.specs.State.{fresh_link, fresh_thermostat}
 use Rattle.model.specs.declared.Reading.TheVariants.{Valid}
 use lib.Ieee.{of_bits, binary32}
 use Rattle.model.proofs.Computing.{unchecked}
 use Rattle.model.proofs.Checksums.{eqb_same, passed}
-use Rattle.model.proofs.Exchanges.{Plays, ◌⇒◌, sample_of, temperature_of, spinel_frame, asked, asked_at, sent_to, requested, reply, silently}
-use Rattle.model.proofs.Exchanges.{answers, answers_from, refuses, refuses_from, announces, gives_from, shows}
+use Rattle.model.proofs.Exchanges.{Plays, ◌⇒◌, sample_of, temperature_of, spinel_frame, asked, asked_at, sent_to, requested, written, reply}
+use Rattle.model.proofs.Exchanges.{silently, answers, answers_from, refuses, refuses_from, announces, gives_from, shows, excepts}
 
 pub record UnreachedTable : Type 0 where
   -- sampling number 0: a differing sample flips
@@ -65,6 +66,119 @@ pub record UnreachedTable : Type 0 where
       (asked 0x33 (0x01 ∷ 0x02 ∷ []) ⇒ answers (0x81 ∷ 0x00 ∷ 0x02 ∷ 0x00 ∷ [])) ∷
       (sample_of 0 ⇒ silently 0) ∷
       (asked 0x30 [] ⇒ answers (0x00 ∷ 0x01 ∷ [])) ∷
+      [])
+  -- a link's action above 4 does nothing at an edge, ends no pulse, and shows as it is stored (E8)
+  pub link_action_five : Plays
+      (with_links fresh_module (link 1 5 ∷ link 1 255 ∷ link 2 8 ∷ link 1 6 ∷ link 1 7 ∷ link 1 1 ∷ replicate 10 fresh_link)) (
+      (asked 0x62 (0x01 ∷ []) ⇒ answers []) ∷
+      (asked 0x41 (0x01 ∷ 0x02 ∷ 0x03 ∷ 0x04 ∷ []) ⇒ answers (0x01 ∷ 0x05 ∷ 0x01 ∷ 0xFF ∷ 0x02 ∷ 0x08 ∷ 0x01 ∷ 0x06 ∷ [])) ∷
+      (asked 0x23 (0x02 ∷ 0x81 ∷ 0x02 ∷ []) ⇒ answers []) ∷
+      (sample_of 3 ⇒ silently 0) ∷
+      (asked 0x33 (0x01 ∷ 0x02 ∷ 0x03 ∷ 0x04 ∷ 0x05 ∷ 0x06 ∷ [])
+      ⇒ answers (0x81 ∷ 0x02 ∷ 0x02 ∷ 0x02 ∷ 0x03 ∷ 0x00 ∷ 0x04 ∷ 0x00 ∷ 0x05 ∷ 0x00 ∷ 0x86 ∷ 0x00 ∷ [])) ∷
+      (asked 0x20 (0x83 ∷ 0x84 ∷ 0x85 ∷ []) ⇒ answers []) ∷
+      (sample_of 0 ⇒ silently 0) ∷
+      (sample_of 3 ⇒ silently 0) ∷
+      (asked 0x33 (0x01 ∷ 0x02 ∷ 0x03 ∷ 0x04 ∷ 0x05 ∷ 0x06 ∷ [])
+      ⇒ answers (0x81 ∷ 0x02 ∷ 0x02 ∷ 0x02 ∷ 0x83 ∷ 0x00 ∷ 0x84 ∷ 0x00 ∷ 0x85 ∷ 0x00 ∷ 0x86 ∷ 0x00 ∷ [])) ∷
+      (asked 0x40 (0x01 ∷ 0x01 ∷ 0x02 ∷ 0x01 ∷ 0x02 ∷ 0x00 ∷ []) ⇒ answers []) ∷
+      (asked 0x41 (0x01 ∷ 0x02 ∷ []) ⇒ answers (0x01 ∷ 0x02 ∷ 0x00 ∷ 0x00 ∷ [])) ∷
+      (sample_of 0 ⇒ silently 0) ∷
+      (asked 0x33 (0x01 ∷ 0x02 ∷ []) ⇒ answers (0x81 ∷ 0x00 ∷ 0x02 ∷ 0x02 ∷ [])) ∷
+      [])
+  -- a link's input above 16 has no edge (E8)
+  pub link_input_beyond : Plays (with_links fresh_module (link 17 1 ∷ link 255 2 ∷ link 32 3 ∷ link 33 1 ∷ link 16 1 ∷ replicate 11 fresh_link)) (
+      (asked 0x62 (0x01 ∷ []) ⇒ answers []) ∷
+      (asked 0x20 (0x82 ∷ []) ⇒ answers []) ∷
+      (sample_of 0xFFFF ⇒ silently 0) ∷
+      (asked 0x30 [] ⇒ answers (0x00 ∷ 0x12 ∷ [])) ∷
+      (sample_of 0 ⇒ silently 0) ∷
+      (asked 0x30 [] ⇒ answers (0x00 ∷ 0x02 ∷ [])) ∷
+      (sample_of 1 ⇒ silently 0) ∷
+      (asked 0x30 [] ⇒ answers (0x00 ∷ 0x02 ∷ [])) ∷
+      (asked 0x20 (0x81 ∷ 0x02 ∷ []) ⇒ answers []) ∷
+      (sample_of 0 ⇒ silently 0) ∷
+      (asked 0x30 [] ⇒ answers (0x00 ∷ 0x01 ∷ [])) ∷
+      (asked 0x41 (0x01 ∷ 0x02 ∷ []) ⇒ answers (0x11 ∷ 0x01 ∷ 0xFF ∷ 0x02 ∷ [])) ∷
+      [])
+  -- a link of action 0 is none, whatever its input, and shows as it is stored; one of an action above 4 is one (E8)
+  pub link_idle : Plays (with_links fresh_module (link 5 0 ∷ link 0 1 ∷ link 3 5 ∷ link 1 9 ∷ replicate 12 fresh_link)) (
+      (asked 0x41 (0x01 ∷ 0x02 ∷ 0x03 ∷ 0x04 ∷ []) ⇒ answers (0x05 ∷ 0x00 ∷ 0x00 ∷ 0x01 ∷ 0x03 ∷ 0x05 ∷ 0x01 ∷ 0x09 ∷ [])) ∷
+      (asked 0x62 (0x01 ∷ []) ⇒ answers []) ∷
+      (sample_of 1 ⇒ silently 0) ∷
+      (asked 0x30 [] ⇒ answers (0x00 ∷ 0x02 ∷ [])) ∷
+      (sample_of 0 ⇒ silently 0) ∷
+      (asked 0x30 [] ⇒ answers (0x00 ∷ 0x00 ∷ [])) ∷
+      (asked 0x1A (0x02 ∷ 0x81 ∷ 0x01 ∷ 0x2C ∷ 0x00 ∷ 0xC8 ∷ 0x00 ∷ 0x00 ∷ []) ⇒ refuses 14 0x03) ∷
+      (written 604 (129 ∷ 300 ∷ 200 ∷ 0 ∷ []) ⇒ excepts 14 0x90 0x04) ∷
+      (asked 0x1A (0x03 ∷ 0x81 ∷ 0x01 ∷ 0x2C ∷ 0x00 ∷ 0xC8 ∷ 0x00 ∷ 0x00 ∷ []) ⇒ refuses 14 0x03) ∷
+      (written 608 (129 ∷ 300 ∷ 200 ∷ 0 ∷ []) ⇒ excepts 14 0x90 0x04) ∷
+      (asked 0x1A (0x01 ∷ 0x81 ∷ 0x01 ∷ 0x2C ∷ 0x00 ∷ 0xC8 ∷ 0x00 ∷ 0x00 ∷ []) ⇒ answers []) ∷
+      (asked 0x41 (0x01 ∷ []) ⇒ answers (0x05 ∷ 0x00 ∷ [])) ∷
+      [])
+  -- a link that the list lacks is none, and stores nothing (E8)
+  pub links_lacking : Plays (with_links fresh_module ([])) (
+      (asked 0x41 (0x01 ∷ 0x10 ∷ []) ⇒ answers (0x00 ∷ 0x00 ∷ 0x00 ∷ 0x00 ∷ [])) ∷
+      (asked 0x40 (0x01 ∷ 0x01 ∷ 0x01 ∷ []) ⇒ answers []) ∷
+      (asked 0x41 (0x01 ∷ []) ⇒ answers (0x00 ∷ 0x00 ∷ [])) ∷
+      (asked 0x62 (0x01 ∷ []) ⇒ answers []) ∷
+      (sample_of 1 ⇒ silently 0) ∷
+      (asked 0x30 [] ⇒ answers (0x00 ∷ 0x00 ∷ [])) ∷
+      (asked 0x1A (0x01 ∷ 0x81 ∷ 0x01 ∷ 0x2C ∷ 0x00 ∷ 0xC8 ∷ 0x00 ∷ 0x00 ∷ []) ⇒ answers []) ∷
+      [])
+  -- F = 1 alone makes a thermostat active: with sensor 0 or 3, TEMPx below TEMPy, ERR 3, TIME 0 (E8)
+  pub links_and_other_heat : Plays
+      (with_thermostats fresh_module (thermostat 0x80 (pos 300) (pos 200) 0 0 ∷ thermostat 0x83 (pos 300) (pos 200) 0 0 ∷ thermostat 0x81 (pos 200) (pos 300) 0 0 ∷ thermostat 0xC1 (pos 300) (pos 200) 0 3 ∷ thermostat 0x7F (pos 300) (pos 200) 9 3 ∷ replicate 11 fresh_thermostat)) (
+      (asked 0x40 (0x01 ∷ 0x01 ∷ 0x01 ∷ []) ⇒ refuses 14 0x03) ∷
+      (asked 0x40 (0x01 ∷ 0x02 ∷ 0x02 ∷ []) ⇒ refuses 14 0x03) ∷
+      (asked 0x40 (0x01 ∷ 0x03 ∷ 0x03 ∷ []) ⇒ refuses 14 0x03) ∷
+      (asked 0x40 (0x01 ∷ 0x04 ∷ 0x04 ∷ []) ⇒ refuses 14 0x03) ∷
+      (asked 0x40 (0x01 ∷ 0x05 ∷ 0x01 ∷ []) ⇒ answers []) ∷
+      [])
+  -- a link's input 0 goes as input 1 (E8)
+  pub link_input_zero : Plays (with_links fresh_module (link 0 1 ∷ link 0 2 ∷ link 0 3 ∷ link 0 4 ∷ replicate 12 fresh_link)) (
+      (asked 0x62 (0x01 ∷ []) ⇒ answers []) ∷
+      (asked 0x20 (0x84 ∷ []) ⇒ answers []) ∷
+      (sample_of 1 ⇒ silently 0) ∷
+      (asked 0x30 [] ⇒ answers (0x00 ∷ 0x05 ∷ [])) ∷
+      (sample_of 2 ⇒ silently 0) ∷
+      (asked 0x30 [] ⇒ answers (0x00 ∷ 0x06 ∷ [])) ∷
+      (sample_of 0x8002 ⇒ silently 0) ∷
+      (asked 0x30 [] ⇒ answers (0x00 ∷ 0x06 ∷ [])) ∷
+      (sample_of 0x8000 ⇒ silently 0) ∷
+      (asked 0x30 [] ⇒ answers (0x00 ∷ 0x06 ∷ [])) ∷
+      (asked 0x41 (0x01 ∷ []) ⇒ answers (0x00 ∷ 0x01 ∷ [])) ∷
+      [])
+  -- an active thermostat and a link on one output: both act (E8); 14 for what would set either anew, until one is gone; other outputs are free
+  pub link_and_heat : Plays
+      (with_thermostats (with_links fresh_module (fresh_link ∷ link 1 1 ∷ replicate 14 fresh_link)) (fresh_thermostat ∷ thermostat 0x81 (pos 300) (pos 200) 0 2 ∷ replicate 14 fresh_thermostat)) (
+      (asked 0x62 (0x01 ∷ []) ⇒ answers []) ∷
+      (sample_of 1 ⇒ silently 0) ∷
+      (asked 0x30 [] ⇒ answers (0x00 ∷ 0x02 ∷ [])) ∷
+      (temperature_of true (pos 199) ⇒ silently 0) ∷
+      (asked 0x30 [] ⇒ answers (0x00 ∷ 0x00 ∷ [])) ∷
+      (sample_of 0 ⇒ silently 0) ∷
+      (sample_of 1 ⇒ silently 0) ∷
+      (asked 0x30 [] ⇒ answers (0x00 ∷ 0x02 ∷ [])) ∷
+      (asked 0x20 (0x02 ∷ []) ⇒ refuses 12 0x03) ∷
+      (sample_of 0 ⇒ silently 0) ∷
+      (asked 0x30 [] ⇒ answers (0x00 ∷ 0x00 ∷ [])) ∷
+      (temperature_of false (pos 0) ⇒ silently 0) ∷
+      (asked 0x30 [] ⇒ answers (0x00 ∷ 0x02 ∷ [])) ∷
+      (asked 0x1A (0x02 ∷ 0x81 ∷ 0x01 ∷ 0x2C ∷ 0x00 ∷ 0xC8 ∷ 0x00 ∷ 0x00 ∷ []) ⇒ refuses 14 0x03) ∷
+      (written 604 (129 ∷ 300 ∷ 200 ∷ 0 ∷ []) ⇒ excepts 14 0x90 0x04) ∷
+      (asked 0x40 (0x01 ∷ 0x02 ∷ 0x01 ∷ []) ⇒ refuses 14 0x03) ∷
+      (asked 0x1A (0x01 ∷ 0x81 ∷ 0x01 ∷ 0x2C ∷ 0x00 ∷ 0xC8 ∷ 0x00 ∷ 0x00 ∷ 0x03 ∷ 0x81 ∷ 0x01 ∷ 0x2C ∷ 0x00 ∷
+      0xC8 ∷ 0x00 ∷ 0x00 ∷ []) ⇒ answers []) ∷
+      (asked 0x40 (0x01 ∷ 0x04 ∷ 0x01 ∷ []) ⇒ answers []) ∷
+      (asked 0x41 (0x02 ∷ 0x04 ∷ []) ⇒ answers (0x01 ∷ 0x01 ∷ 0x01 ∷ 0x01 ∷ [])) ∷
+      (asked 0x40 (0x01 ∷ 0x02 ∷ 0x00 ∷ []) ⇒ answers []) ∷
+      (asked 0x1A (0x02 ∷ 0x81 ∷ 0x01 ∷ 0x2C ∷ 0x00 ∷ 0xC8 ∷ 0x00 ∷ 0x00 ∷ []) ⇒ answers []) ∷
+      (asked 0x41 (0x02 ∷ []) ⇒ answers (0x00 ∷ 0x00 ∷ [])) ∷
+      (temperature_of true (pos 199) ⇒ silently 0) ∷
+      (sample_of 1 ⇒ silently 0) ∷
+      (asked 0x30 [] ⇒ answers (0x00 ∷ 0x08 ∷ [])) ∷
+      (asked 0x40 (0x01 ∷ 0x02 ∷ 0x01 ∷ []) ⇒ refuses 14 0x03) ∷
       [])
   -- a thermostat's pulse of TIME 0 is a plain set
   pub time_zero : Plays (with_thermostats fresh_module (thermostat 0xC1 (pos 300) (pos 200) 0 0 ∷ replicate 15 fresh_thermostat)) (
@@ -251,6 +365,13 @@ unreached_table = record {
   not_a_number = passed _ _ _ (simp eqb_same) refl;
   preset_one = passed _ _ _ refl refl;
   preset_time_zero = passed _ _ _ refl refl;
+  link_action_five = passed _ _ _ refl refl;
+  link_input_beyond = passed _ _ _ refl refl;
+  link_idle = passed _ _ _ (simp eqb_same) refl;
+  links_lacking = passed _ _ _ refl refl;
+  links_and_other_heat = passed _ _ _ refl refl;
+  link_input_zero = passed _ _ _ refl refl;
+  link_and_heat = passed _ _ _ (simp eqb_same) refl;
   time_zero = passed _ _ _ refl refl;
   limits_exchanged = passed _ _ _ refl refl;
   err_three = passed _ _ _ refl refl;
