@@ -12,14 +12,14 @@ use lib.ListN.{length, get_or}
 use Rattle.std.specs.List.{list_any}
 use Rattle.lists.specs.Tests.{any}
 use Rattle.lists.specs.Mapi.{mapi}
-use Rattle.lists.specs.Numbers.{bit_at}
+use Rattle.lists.specs.Numbers.{bit_at, bits_number}
 use Rattle.lists.proofs.Done.{get_or-mapi, length-mapi}
 use Rattle.lists.proofs.Somes.{some_any, some_false, some_of, none_below, mapi-alike, mapi-same}
 use Rattle.model.specs.declared.Inputs.{Inputs}
 use Rattle.model.specs.declared.Line.{Line}
 use Rattle.model.specs.State.{line, fresh_line}
 use Rattle.model.specs.Samples.{is_edge, edges, selected_edge, counted, line_sampled, lines_sampled, counters_sampled}
-use Rattle.inputs.specs.Passes.{any_masked, selected_lines, is_moving, any_moving, sampled_of}
+use Rattle.inputs.specs.Passes.{any_masked, selected_lines, is_moving, any_moving, stable_bits, sampled_of}
 
 -- a list has a `true` where one of its tests passed
 pub has_true : (l : List Bool) → list_any (λ y. beq y true) l ≡ any (λ b. b) l
@@ -51,10 +51,10 @@ no_mask mask edged h =
 
 -- the inputs' part of a sample, by whether a line had an edge
 module _ (bits number : ℕ) (modes : List ℕ) (x : Inputs) (now : List Line) (e : now ≡ lines_sampled number bits x.lines) (es : List Bool) (q : es ≡ edges x.lines now) where
-  pub with_edge : (cs : List ℕ) → cs ≡ counters_sampled modes x.lines now x.counters → true ≡ any (λ b. b) es
-      → record { inputs = record { lines = now; counters = cs }; edges = Some es } ≡ sampled_of bits number modes x
+  pub with_edge : (cs : List ℕ) (f s : ℕ) → cs ≡ counters_sampled modes x.lines now x.counters → f ≡ bits_number es → s ≡ stable_bits now → true ≡ any (λ b. b) es
+      → record { inputs = record { lines = now; counters = cs }; edges = Some (record { found = f; states = s }) } ≡ sampled_of bits number modes x
   unfolding sampled_of
-  with_edge cs c p = rw (c, q, e, ← (rw (q, e) at p))
+  with_edge cs f s c j k p = rw (c, j, k, q, e, ← (rw (q, e) at p))
 
   no_edges : (cs : List ℕ) → cs ≡ counters_sampled modes x.lines now x.counters → false ≡ any (λ b. b) es
       → record { inputs = record { lines = now; counters = cs }; edges = None } ≡ sampled_of bits number modes x

@@ -1,15 +1,14 @@
 -- What the passes over the lines give.
-use Rattle.std.specs.Prelude.{ℕ, Bool, false, cond, not, ◌&&◌, ◌||◌, List, map, eqb, get_or, Option, Some, None}
+use Rattle.std.specs.Prelude.{ℕ, Bool, cond, not, ◌&&◌, ◌||◌, List, map, eqb, get_or, Option, Some, None}
 use Rattle.std.specs.Bool.{beq}
 use Rattle.lists.specs.Tests.{any}
 use Rattle.lists.specs.Mapi.{mapi}
 use Rattle.lists.specs.Numbers.{bit_at, bits_number}
 use Rattle.model.specs.declared.Inputs.{Inputs}
 use Rattle.model.specs.declared.Line.{Line}
-use Rattle.model.specs.declared.Notice.{Notice}
 use Rattle.model.specs.State.{fresh_line}
 use Rattle.model.specs.Samples.{lines_sampled, edges, selected_edge, counters_sampled}
-use Rattle.model.specs.Notice.{noticed}
+use Rattle.inputs.specs.declared.Edged.{Edged}
 use Rattle.inputs.specs.declared.Sampled.{Sampled}
 
 -- some line that the mask picks has an edge
@@ -32,14 +31,12 @@ stable_bits xs = bits_number (map (λ (y : Line). y.stable) xs)
 unfoldable pub selected_lines : List ℕ → List Line → List Line → List Bool
 selected_lines modes was now = mapi (λ i x. selected_edge (get_or modes i 0) x (get_or now i fresh_line)) was
 
--- the inputs after a sample, by the sampling number and the modes, and the edges, where a line had one
+-- the edges, where a line has one, with the states after them
+abbrev pub edged_of : List Bool → List Line → Option Edged
+edged_of es now = cond (any (λ b. b) es) (Some (record { found = bits_number es; states = stable_bits now })) None
+
+-- the inputs after a sample, by the sampling number and the modes, and its edges
 unfoldable pub sampled_of : ℕ → ℕ → List ℕ → Inputs → Sampled
 sampled_of bits number modes x =
     let now = lines_sampled number bits x.lines in
-    let es = edges x.lines now in
-    record { inputs = record { lines = now; counters = counters_sampled modes x.lines now x.counters }; edges = cond (any (λ b. b) es) (Some es) None }
-
--- a notice tells of these edges, and of none where no line had one
-abbrev pub noticed_in : Notice → Option (List Bool) → Bool
-noticed_in n (Some es) = noticed n es
-noticed_in n None = false
+    record { inputs = record { lines = now; counters = counters_sampled modes x.lines now x.counters }; edges = edged_of (edges x.lines now) now }

@@ -3,4 +3,4 @@ use Rattle.inputs.proofs.Masks.{masked_bits}
 use Rattle.inputs.proofs.any_masked.Goals as goal
 
 pub returns : goal.returns
-returns c = rw c.bits_of.ensures (masked_bits c.args.edged c.args.mask)
+returns c edged e = rw e (masked_bits edged c.args.mask)

@@ -31,4 +31,4 @@ returns-then-not-any_edge c =
 pub returns : goal.returns
 returns c =
     let a = c.args in
-    with_edge a.bits a.sampling a.modes a.x _ c.sample_lines-lines.ensures _ c.edges_of-edges.ensures _ c.count_lines-counters.ensures (sym c.if-not-any_edge.false ∙ c.any_edge.ensures)
+    with_edge a.bits a.sampling a.modes a.x _ c.sample_lines-lines.ensures _ c.edges_of-edges.ensures _ _ _ c.count_lines-counters.ensures c.bits_of.ensures c.stable_bits.ensures (sym c.if-not-any_edge.false ∙ c.any_edge.ensures)
