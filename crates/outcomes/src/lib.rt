@@ -3,14 +3,14 @@
 
 ghost use Rattle.std.specs.Prelude.{◌≡◌, []};
 ghost use Rattle.lists.specs.Data.{data_of};
-ghost use Rattle.model.specs.State.{with_counters, with_outputs, with_modes, with_sampling, with_presets, with_thermostats, with_notice, with_sum_tested, with_spinel, with_modbus};
+ghost use Rattle.model.specs.State.{with_counters, with_outputs, with_modes, with_sampling, with_presets, with_links, with_thermostats, with_notice, with_sum_tested, with_spinel, with_modbus};
 ghost use Rattle.model.specs.Refusals.{silent};
 ghost use Rattle.model.specs.Numbers.{number_of};
 ghost use Rattle.encoding.specs.Answers.{told};
 ghost use Rattle.outcomes.specs.Parts.{outcome, told_about, handling, handled_of};
 
 use lists::Data;
-use model::{Inputs, Module, Notice, Output, Port, Preset, Refusal, Settings, Thermostat};
+use model::{Inputs, Link, Module, Notice, Output, Port, Preset, Refusal, Settings, Thermostat};
 
 // What an accepted instruction or function comes to: the state after, and the reply's data. A refused one leaves the state.
 #[derive(Drop)]
@@ -102,6 +102,19 @@ pub fn with_presets(m: Module, presets: [Preset; 16]) -> Module
     Module {
         settings: Settings {
             presets,
+            ..m.settings
+        },
+        ..m
+    }
+}
+
+// The module with these links.
+pub fn with_links(m: Module, links: [Link; 16]) -> Module
+    ensures { result ≡ with_links m links }
+{
+    Module {
+        settings: Settings {
+            links,
             ..m.settings
         },
         ..m

@@ -50,6 +50,8 @@ impl Wire for SpinelWire {
             0x33 => output_instructions::read_pulses(m, d),
             0x36 => output_instructions::read_presets(m, d),
             0x38 => output_instructions::read_output_modes(m, d),
+            0x40 => link_instructions::set_links(m, d),
+            0x41 => link_instructions::read_links(m, d),
             0x51 => thermostat_instructions::read_temperature(m, d),
             0x60 => counter_instructions::read_counters(m, d),
             0x61 => counter_instructions::deduct_counters(m, d),

@@ -1,15 +1,16 @@
-// What Spinel shows of one input or output, after the reply so far: its pulse, preset, mode or thermostat.
+// What Spinel shows of one input or output, after the reply so far: its pulse, preset, mode, link or thermostat.
 #![tactic(auto)]
 
 ghost use Rattle.std.specs.Prelude.{◌≡◌, cond, ◌+◌, ◌<◌};
 ghost use Rattle.lists.specs.Data.{extended};
 ghost use Rattle.model.specs.Counters.{mode_shown};
+ghost use Rattle.model.specs.Links.{link_shown};
 ghost use Rattle.model.specs.Outputs.{pulse_shown, preset_shown, mode_byte};
 ghost use Rattle.model.specs.Temperature.{group_shown};
 ghost use Rattle.spinel_items.specs.Shown.{settings_shown};
 
 use lists::Data;
-use model::{Output, Preset, Thermostat};
+use model::{Link, Output, Preset, Thermostat};
 
 // A set byte: bit 7 and the number.
 fn set_byte(on: bool, n: u8) -> u8
@@ -49,6 +50,15 @@ pub fn show_mode(hs: [Thermostat; 16], ps: [Preset; 16], n: u8, out: Data) -> Da
     }
     let p = preset_effects::preset_at(ps, n);
     out.push(p.kind)
+}
+
+// Input and action of the link of output n.
+#[tactic(auto, unfolding(model::specs::Links::link_shown, lists::specs::Data::extended))]
+pub fn show_link(ls: [Link; 16], n: u8, out: Data) -> Data
+    ensures { result ≡ extended out (link_shown ls n) }
+{
+    let l = holding::link_at(&ls, n);
+    out.push(l.input).push(l.action)
 }
 
 // Mode of input n.

@@ -1,4 +1,4 @@
-// What requests read of numbers listed (1BH 33H 36H 38H 6BH), by one loop, and all states (30H 31H).
+// What requests read of numbers listed (1BH 33H 36H 38H 41H 6BH), by one loop, and all states (30H 31H).
 #![tactic(auto)]
 
 ghost use Rattle.std.specs.Prelude.{◌≡◌, ◌≤◌, ℕ, List, length};
@@ -6,6 +6,7 @@ ghost use mathlib.Core.List.{[], flat_map};
 ghost use Rattle.lists.specs.Data.{data_of, extended};
 ghost use Rattle.lists.specs.Numbers.{bits_number};
 ghost use Rattle.model.specs.Counters.{listed, list_read, mode_shown};
+ghost use Rattle.model.specs.Links.{link_shown};
 ghost use Rattle.model.specs.Outputs.{pulse_shown, preset_shown, mode_byte, output_states};
 ghost use Rattle.model.specs.Temperature.{group_shown, read_thermostats};
 ghost use Rattle.encoding.specs.Answers.{told, told_of};
@@ -13,7 +14,7 @@ ghost use Rattle.spinel_reads.specs.Answers.{states_told};
 ghost use Rattle.spinel_reads.specs.Shown.{Shows, all_if_none};
 
 use lists::Data;
-use model::{Output, Preset, Refusal, Thermostat};
+use model::{Link, Output, Preset, Refusal, Thermostat};
 
 // The numbers listed ---------------------------------------------------------------------
 
@@ -64,6 +65,13 @@ pub fn read_modes(hs: [Thermostat; 16], ps: [Preset; 16], d: &[u8]) -> Result<Da
     ensures { told result ≡ told_of (list_read (mode_byte hs ps) d.now) }
 {
     list_read(d, |n, reply| spinel_items::show_mode(hs, ps, n, reply))
+}
+
+// 41H: input and action of the link of each.
+pub fn read_links(ls: [Link; 16], d: &[u8]) -> Result<Data, Refusal>
+    ensures { told result ≡ told_of (list_read (link_shown ls) d.now) }
+{
+    list_read(d, |n, reply| spinel_items::show_link(ls, n, reply))
 }
 
 // The groups of the outputs listed: no data ask for all, as a single 00 does elsewhere.

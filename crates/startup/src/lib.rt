@@ -5,7 +5,9 @@ ghost use Rattle.std.specs.Prelude.{◌≡◌};
 ghost use Rattle.model.specs.State.{fresh_module};
 ghost use Rattle.model.specs.Counters.{runs_ended, cleared_counters, reset};
 
-use model::{Inputs, Line, Module, Notice, Output, Port, Preset, Reading, Settings, Thermostat};
+use model::{
+    Inputs, Line, Link, Module, Notice, Output, Port, Preset, Reading, Settings, Thermostat,
+};
 
 // Each port's fresh address and speed, not permitted.
 const PORT: Port = Port {
@@ -23,6 +25,7 @@ fn fresh_settings() -> Settings
         modes: [0; 16],
         sampling: 20,
         presets: [Preset::FRESH; 16],
+        links: [Link::FRESH; 16],
         thermostats: [Thermostat::FRESH; 16],
         notice: Notice {
             format: 0,

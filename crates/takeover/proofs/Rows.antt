@@ -9,7 +9,7 @@ use lib.IntN.{pos, negsuc}
 use lib.ListN.{get_or, replicate}
 use Rattle.model.specs.declared.Reading.{Reading}
 use Rattle.model.specs.declared.Reading.TheVariants.{Valid, Fault}
-use Rattle.model.specs.State.{line, output, preset, thermostat, notice, fresh_line, fresh_output, fresh_preset, fresh_thermostat, fresh_module}
+use Rattle.model.specs.State.{line, output, preset, thermostat, notice, fresh_line, fresh_output, fresh_preset, fresh_link, fresh_thermostat, fresh_module}
 use Rattle.model.specs.Temperature.{degrees}
 use Rattle.model.specs.Call.{Call}
 use Rattle.model.specs.Calls.{run}
@@ -46,7 +46,7 @@ full s m = record {
   modbus = record { address = 0x05; speed = 8; permitted = m };
 }
 
--- the fields, of any state; SUM, which was always tested, still is
+-- the fields, of any state; no output has a link yet, and SUM, which was always tested, still is
 pub record Kept (b : ModuleBefore) : Type 0 where
   pub lines : (taken_over b).inputs.lines ≡ b.inputs.lines
   pub counters : (taken_over b).inputs.counters ≡ b.inputs.counters
@@ -54,6 +54,7 @@ pub record Kept (b : ModuleBefore) : Type 0 where
   pub modes : (taken_over b).settings.modes ≡ b.settings.modes
   pub sampling : (taken_over b).settings.sampling ≡ b.settings.sampling
   pub presets : (taken_over b).settings.presets ≡ b.settings.presets
+  pub links : (taken_over b).settings.links ≡ replicate 16 fresh_link
   pub thermostats : (taken_over b).settings.thermostats ≡ b.settings.thermostats
   pub notice : (taken_over b).settings.notice ≡ b.settings.notice
   pub sum_tested : (taken_over b).settings.sum_tested ≡ true
@@ -74,6 +75,7 @@ kept b = record {
   modes = refl;
   sampling = refl;
   presets = refl;
+  links = refl;
   thermostats = refl;
   notice = refl;
   sum_tested = refl;
@@ -115,7 +117,7 @@ pub record Rows : Type 0 where
     modbus = record { address = 0x31; speed = 6; permitted = false };
   }) ≡ fresh_module
   -- the run of input 2 ends in an edge, which the notice tells; the counter of input 1 goes on past 65,535; pulses, presets, the thermostat
-  -- and the last valid reading go on
+  -- and the last valid reading go on; there is no link
   pub goes_on : Plays (taken_over (full true true)) (
       (sample_of 0x0007 ⇒ announces 0x32 0x05 (0x00 ∷ 0x07 ∷ [])) ∷
       (asked_at 0x32 0x62 (0x01 ∷ []) ⇒ answers_from 0x32 []) ∷
@@ -124,6 +126,7 @@ pub record Rows : Type 0 where
       (sent_to 0x05 0x03 (two 100 ++ two 3) ⇒ gives_from 0x05 0x03 (0x06 ∷ 0x00 ∷ 0x00 ∷ 0x00 ∷ 0x03 ∷ 0x01 ∷ 0x2C ∷ [])) ∷
       (asked_at 0x32 0x33 (0x01 ∷ 0x02 ∷ 0x03 ∷ 0x10 ∷ []) ⇒ answers_from 0x32 (0x81 ∷ 0x02 ∷ 0x82 ∷ 0x00 ∷ 0x83 ∷ 0x00 ∷ 0x90 ∷ 0xFF ∷ [])) ∷
       (asked_at 0x32 0x36 (0x01 ∷ 0x02 ∷ 0x10 ∷ []) ⇒ answers_from 0x32 (0x02 ∷ 0x04 ∷ 0x03 ∷ 0xFF ∷ 0x00 ∷ 0x09 ∷ [])) ∷
+      (asked_at 0x32 0x41 (0x04 ∷ 0x10 ∷ []) ⇒ answers_from 0x32 (0x00 ∷ 0x00 ∷ 0x00 ∷ 0x00 ∷ [])) ∷
       (asked_at 0x32 0x6B (0x01 ∷ 0x02 ∷ 0x03 ∷ 0x10 ∷ []) ⇒ answers_from 0x32 (0x03 ∷ 0x01 ∷ 0x02 ∷ 0x03 ∷ [])) ∷
       (asked_at 0x32 0x1B (0x04 ∷ []) ⇒ answers_from 0x32 (0x04 ∷ 0xC1 ∷ 0x01 ∷ 0x2C ∷ 0xFF ∷ 0xFB ∷ 0x01 ∷ 0x02 ∷ [])) ∷
       (asked_at 0x32 0x11 [] ⇒ answers_from 0x32 (0x61 ∷ 0x00 ∷ 0x02 ∷ [])) ∷

@@ -1,9 +1,10 @@
 -- 02, E4: a state from before the counters had 32 bits, in the module of now. Every field keeps its value.
-use Rattle.std.specs.Prelude.{true}
+use Rattle.std.specs.Prelude.{true, replicate}
 use Rattle.model.specs.declared.Inputs.{Inputs}
 use Rattle.model.specs.declared.Settings.{Settings}
 use Rattle.model.specs.declared.Port.{Port}
 use Rattle.model.specs.declared.Module.{Module}
+use Rattle.model.specs.State.{fresh_link}
 use Rattle.takeover.specs.declared.InputsBefore.{InputsBefore}
 use Rattle.takeover.specs.declared.SettingsBefore.{SettingsBefore}
 use Rattle.takeover.specs.declared.PortBefore.{PortBefore}
@@ -13,12 +14,13 @@ use Rattle.takeover.specs.declared.ModuleBefore.{ModuleBefore}
 abbrev pub inputs_over : InputsBefore → Inputs
 inputs_over x = record { lines = x.lines; counters = x.counters }
 
--- before, SUM was always tested
+-- before, no output had a link, and SUM was always tested
 abbrev pub settings_over : SettingsBefore → Settings
 settings_over s = record {
   modes = s.modes;
   sampling = s.sampling;
   presets = s.presets;
+  links = replicate 16 fresh_link;
   thermostats = s.thermostats;
   notice = s.notice;
   sum_tested = true;

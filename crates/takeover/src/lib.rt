@@ -5,7 +5,9 @@ ghost use Rattle.std.specs.Prelude.{◌≡◌};
 ghost use Rattle.takeover.specs.TakenOver.{inputs_over, settings_over, port_over, taken_over};
 ghost use Rattle.takeover.specs.Across.{CyclesConservedAcross};
 
-use model::{Inputs, Line, Module, Notice, Output, Port, Preset, Reading, Settings, Thermostat};
+use model::{
+    Inputs, Line, Link, Module, Notice, Output, Port, Preset, Reading, Settings, Thermostat,
+};
 
 // What samples changed of the inputs. The types of this state are spelt out, and not the model's with another counter: a setting
 // that the model gets later is none of theirs.
@@ -65,7 +67,7 @@ impl From<InputsBefore> for Inputs {
     }
 }
 
-// Every setting; SUM is tested, as it always was before.
+// Every setting; no output has a link, as none had before, and SUM is tested, as it always was.
 impl From<SettingsBefore> for Settings {
     ghost from_gives = { λ s settings. settings ≡ settings_over s };
 
@@ -81,6 +83,7 @@ impl From<SettingsBefore> for Settings {
             modes,
             sampling,
             presets,
+            links: [Link::FRESH; 16],
             thermostats,
             notice,
             sum_tested: true,
