@@ -1,11 +1,13 @@
-// What a thermostat's flags say, and whether it holds its output. They are FSSKSTTT; elsewhere they are only stored and shown.
+// What a thermostat's flags say, whether it holds its output, and whether it can stand beside the output's link. The flags are FSSKSTTT;
+// elsewhere they are only stored and shown.
 #![tactic(auto)]
 
-ghost use Rattle.std.specs.Prelude.{◌≡◌};
-ghost use Rattle.model.specs.Temperature.{active, action, on_fall, third_s, sensor, setting_shown, in_band, free};
+ghost use Rattle.std.specs.Prelude.{◌≡◌, ◌-◌, get_or};
+ghost use Rattle.model.specs.State.{fresh_link, has_link};
+ghost use Rattle.model.specs.Temperature.{active, action, on_fall, third_s, sensor, setting_shown, in_band, free, clash};
 ghost use Rattle.holding.specs.Actions.{bits_of};
 
-use model::{Reading, Thermostat};
+use model::{Link, Reading, Thermostat};
 
 // F: whether it acts at all.
 pub fn is_active(h: Thermostat) -> bool
@@ -82,4 +84,27 @@ pub fn is_free(r: Reading, h: Thermostat) -> bool
         Reading::Valid(t, _) => off | is_in_band(h, t),
         Reading::Fault => off,
     }
+}
+
+// Links ----------------------------------------------------------------------------------
+
+// The link of an output's number; 0, which is refused before, is taken for 1, and behind the last stands a fresh one.
+pub fn link_at(ls: &[Link; 16], n: u8) -> Link
+    ensures { result ≡ get_or ls.now (n - 1) fresh_link }
+{
+    encoding::element(ls, encoding::index_of(n), Link::FRESH)
+}
+
+// Whether a link is one: action 0 is none.
+pub fn is_linked(l: Link) -> bool
+    ensures { result ≡ has_link l }
+{
+    l.action != 0
+}
+
+// Whether a link and a thermostat can't both be an output's: each would drive it.
+pub fn clashes(l: Link, h: Thermostat) -> bool
+    ensures { result ≡ clash l h }
+{
+    is_linked(l) & is_active(h)
 }

@@ -104,7 +104,7 @@ module _ (permitted single : Bool) (a : ℕ) (vs : List ℕ) (m : Module) where
   write_at_500 p q =
       rw (not_within 0 0 a (λ x y. omega arith), not_within 1 2 a (λ x y. omega arith), not_within 100 115 a (λ x y. omega arith), not_within 200 215 a (λ x y. omega arith), not_within 300 315 a (λ x y. omega arith), is_within 500 515 a p q)
 
-  pub write_at_600 : 600 ≤ a → a ≤ 663 → on_part (with_thermostats m) (write_thermostat a vs m.settings.thermostats) ≡ registers_written permitted single a vs m
+  pub write_at_600 : 600 ≤ a → a ≤ 663 → on_part (with_thermostats m) (write_thermostat m.settings.links a vs m.settings.thermostats) ≡ registers_written permitted single a vs m
   unfolding registers_written
   write_at_600 p q =
       rw (not_within 0 0 a (λ x y. omega arith), not_within 1 2 a (λ x y. omega arith), not_within 100 115 a (λ x y. omega arith), not_within 200 215 a (λ x y. omega arith), not_within 300 315 a (λ x y. omega arith), not_within 500 515 a (λ x y. omega arith), is_within 600 663 a p q)

@@ -1,18 +1,18 @@
 // What setpoints of either port come to, judged and put in place; and the reading that 51H shows.
 #![tactic(auto)]
 
-ghost use Rattle.std.specs.Prelude.{◌≡◌, cond, not};
+ghost use Rattle.std.specs.Prelude.{◌≡◌};
 ghost use mathlib.Core.List.{foldl};
 ghost use Rattle.lists.specs.Data.{data_of};
-ghost use Rattle.lists.specs.Tests.{all};
+ghost use Rattle.lists.specs.Tests.{all, any};
 ghost use Rattle.model.specs.Temperature.{action_fits, thermostat_fits, reading_shown, read_temperature};
 ghost use Rattle.model.specs.Numbers.{refused_by};
 ghost use Rattle.encoding.specs.Answers.{told, told_of};
-ghost use Rattle.thermostat_effects.specs.Parts.{setpoint_fits, setpoint_put};
+ghost use Rattle.thermostat_effects.specs.Parts.{setpoint_fits, setpoint_clashes, setpoint_put, setpoints_refusal};
 
 use holding::Action;
 use lists::Data;
-use model::{Reading, Refusal, Thermostat};
+use model::{Link, Reading, Refusal, Thermostat};
 use setpoints::Setpoint;
 
 // Whether its action is allowed: pulses take a time, and go with no third S.
@@ -49,11 +49,28 @@ fn all_fit(es: &[Setpoint]) -> bool
     es.iter().all(setpoint_fits)
 }
 
-// Why setpoints are refused.
-pub fn thermostats_refusal(es: &[Setpoint]) -> Result<(), Refusal>
-    ensures { refused_by result ≡ cond (not (all setpoint_fits es.now)) 11 0 }
+// Whether a setpoint is of an active thermostat for an output that has a link.
+#[tactic(auto, unfolding(crate::specs::Parts::setpoint_clashes))]
+fn clashes(ls: &[Link; 16], e: &Setpoint) -> bool
+    ensures { result ≡ setpoint_clashes ls.now e.now }
 {
-    encoding::refused_if(!all_fit(es), Refusal::Value)
+    holding::clashes(holding::link_at(ls, e.number), e.thermostat)
+}
+
+// Whether some setpoint is.
+fn some_clash(ls: &[Link; 16], es: &[Setpoint]) -> bool
+    ensures { result ≡ any (setpoint_clashes ls.now) es.now }
+{
+    es.iter().any(|e| clashes(ls, e))
+}
+
+// Why setpoints are refused, by the links beside them: every value is judged before any link.
+#[tactic(auto, unfolding(crate::specs::Parts::setpoints_refusal))]
+pub fn thermostats_refusal(ls: &[Link; 16], es: &[Setpoint]) -> Result<(), Refusal>
+    ensures { refused_by result ≡ setpoints_refusal ls.now es.now }
+{
+    encoding::refused_if(!all_fit(es), Refusal::Value)?;
+    encoding::refused_if(some_clash(ls, es), Refusal::Clash)
 }
 
 // The thermostats after a setpoint.

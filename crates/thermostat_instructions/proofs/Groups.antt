@@ -4,7 +4,6 @@ use mathlib.Core.Bool.{false, cond, not}
 use mathlib.Core.List.{map, foldl}
 use borrow.Author.Tests.{not-false}
 use Rattle.lists.specs.Chunks.{chunks}
-use Rattle.lists.specs.Tests.{all}
 use Rattle.model.specs.declared.Module.{Module}
 use Rattle.model.specs.State.{with_thermostats}
 use Rattle.model.specs.Refusals.{Request, on_part, refusal_of}
@@ -14,13 +13,9 @@ use Rattle.number_lists.specs.Items.{items_in}
 use Rattle.setpoints.specs.declared.Setpoint.{Setpoint}
 use Rattle.setpoints.specs.Setpoints.{group_setpoint, setpoints_of, setpoints_in}
 use Rattle.setpoints.proofs.Decoded.{groups_whole}
-use Rattle.thermostat_effects.specs.Parts.{setpoint_fits, setpoint_put, set_setpoints}
+use Rattle.thermostat_effects.specs.Parts.{setpoint_put, set_setpoints, setpoints_refusal}
 use Rattle.thermostat_effects.proofs.Effects.{groups_request}
 use Rattle.outcomes.proofs.Laws.{Refused, Done, Passes, refused_first, item_refused, list_done}
-
--- the number for a setpoint that does not fit
-abbrev misfit : List Setpoint → ℕ
-misfit es = cond (not (all setpoint_fits es)) 11 0
 
 module _ (m : Module) (d : List ℕ) where
   abbrev wrong : Bool
@@ -30,11 +25,15 @@ module _ (m : Module) (d : List ℕ) where
   decoded = setpoints_in (setpoints_of (take 12 (map group_setpoint (chunks 8 d))))
 
   abbrev asked : Request Module
-  asked = on_part (with_thermostats m) (set_thermostats d m.settings.thermostats)
+  asked = on_part (with_thermostats m) (set_thermostats m.settings.links d m.settings.thermostats)
 
-  first : refusal_of asked ≡ cond wrong 8 (misfit (map group_setpoint (chunks 8 d)))
-  unfolding items_of items_in set_setpoints refusal_of
-  first = rw (← groups_request d m.settings.thermostats)
+  -- what is looked at in the setpoints
+  abbrev rest : List Setpoint → ℕ
+  rest es = setpoints_refusal m.settings.links es
+
+  first : refusal_of asked ≡ cond wrong 8 (rest (map group_setpoint (chunks 8 d)))
+  unfolding items_of items_in set_setpoints setpoints_refusal refusal_of
+  first = rw (← groups_request m.settings.links d m.settings.thermostats)
 
   whole : wrong ≡ false → decoded ≡ map group_setpoint (chunks 8 d)
   unfolding items_of items_in
@@ -43,11 +42,11 @@ module _ (m : Module) (d : List ℕ) where
   pub no_groups : Refused m asked (cond wrong 8 0)
   no_groups = refused_first m asked wrong 7 _ first
 
-  pub groups_unfit : Passes wrong 8 → Refused m asked (misfit decoded)
-  groups_unfit = item_refused m asked wrong 7 misfit _ first _ whole
+  pub groups_refused : Passes wrong 8 → Refused m asked (rest decoded)
+  groups_refused = item_refused m asked wrong 7 rest _ first _ whole
 
-  pub groups_set : Passes wrong 8 → 0 ≡ misfit decoded → Done m asked (with_thermostats m (foldl setpoint_put m.settings.thermostats decoded))
+  pub groups_set : Passes wrong 8 → 0 ≡ rest decoded → Done m asked (with_thermostats m (foldl setpoint_put m.settings.thermostats decoded))
   unfolding set_setpoints
   groups_set =
-      list_done m asked wrong 7 misfit _ first _ whole (λ es. with_thermostats m (foldl setpoint_put m.settings.thermostats es))
-      (λ _. rw (← groups_request d m.settings.thermostats)) (rw (← groups_request d m.settings.thermostats))
+      list_done m asked wrong 7 rest _ first _ whole (λ es. with_thermostats m (foldl setpoint_put m.settings.thermostats es))
+      (λ _. rw (← groups_request m.settings.links d m.settings.thermostats)) (rw (← groups_request m.settings.links d m.settings.thermostats))

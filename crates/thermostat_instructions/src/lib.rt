@@ -11,14 +11,14 @@ use model::{Module, Refusal};
 use outcomes::Served;
 
 // 1AH. A function for this and for 6AH would take their effects as closures: 01 has a small one for each.
-#[tactic(auto, using(crate::proofs::Groups::no_groups, crate::proofs::Groups::groups_unfit, crate::proofs::Groups::groups_set))]
+#[tactic(auto, using(crate::proofs::Groups::no_groups, crate::proofs::Groups::groups_refused, crate::proofs::Groups::groups_set))]
 pub fn set_thermostats(m: Module, d: &[u8]) -> Result<Served, Refusal>
-    ensures { outcome m result ≡ served_of (judged m (on_part (with_thermostats m) (set_thermostats d.now m.settings.thermostats))) }
+    ensures { outcome m result ≡ served_of (judged m (on_part (with_thermostats m) (set_thermostats m.settings.links d.now m.settings.thermostats))) }
 {
     encoding::refused_if(!number_lists::items_of(8, d.len()), Refusal::DataLength)?;
     let groups = setpoints::from_groups(d);
     let es = groups.as_slice();
-    thermostat_effects::thermostats_refusal(es)?;
+    thermostat_effects::thermostats_refusal(&m.settings.links, es)?;
     let hs = thermostat_effects::set_thermostats(m.settings.thermostats, es);
     Ok(Served::without_data(outcomes::with_thermostats(m, hs)))
 }
