@@ -1,17 +1,18 @@
-// What a sample comes to: of the inputs, with the pulses and the notice; of the thermometer.
+// What a sample comes to: of the inputs, with pulses, links and the notice; of the thermometer.
 #![tactic(auto)]
 
-ghost use Rattle.std.specs.Prelude.{◌≡◌, ◌<◌, List, Bool, cond, []};
+ghost use Rattle.std.specs.Prelude.{◌≡◌, ◌<◌, List, [], Bool, Some, None};
 ghost use Rattle.lists.specs.Numbers.{bit_at, bits_number};
 ghost use Rattle.model.specs.declared.Inputs.{Inputs as InputsOf};
 ghost use Rattle.model.specs.Text.{state_letter, text_notice};
-ghost use Rattle.model.specs.Notice.{notice_frame};
+ghost use Rattle.model.specs.Notice.{noticed, notice_frame, notice_written};
 ghost use Rattle.model.specs.Temperature.{reading_of, taken};
 ghost use Rattle.model.specs.Calls.{sampled};
-ghost use Rattle.inputs.specs.Passes.{noticed_in, stable_bits};
+ghost use Rattle.inputs.specs.declared.Edged.{Edged as EdgedOf};
+ghost use Rattle.inputs.specs.Passes.{stable_bits};
 ghost use Rattle.sampling.specs.Parts.{frame_bytes, bytes_of, out_of};
 
-use inputs::Sampled;
+use inputs::{Edged, Sampled};
 use model::{Module, Notice};
 
 // A notice's frame, in the format that it was switched on in; each in an array of its own size.
@@ -29,14 +30,10 @@ pub struct AfterSample {
 }
 
 // Whether a notice is due after these edges.
-#[tactic(auto, unfolding(model::specs::Notice::noticed, inputs::specs::Passes::any_masked))]
-fn notice_due(n: Notice, edges: Option<[bool; 16]>) -> bool
-    ensures { result ≡ noticed_in n edges }
+fn is_due(n: Notice, e: Edged) -> bool
+    ensures { (es : List Bool) → e.found ≡ bits_number es → result ≡ noticed n es }
 {
-    match edges {
-        Some(found) => n.format != 0 && inputs::any_masked(n.mask, found),
-        None => false,
-    }
+    n.format != 0 && inputs::any_masked(n.mask, e.found)
 }
 
 // The letter of the input at a place.
@@ -94,26 +91,32 @@ fn notice_frame(address: u8, n: Notice, states: u16) -> NoticeFrame
 
 // The notice that the sampled inputs make due.
 fn notice(address: u8, n: Notice, s: Sampled) -> Option<NoticeFrame>
-    ensures { bytes_of result ≡ cond (noticed_in n s.edges) (notice_frame address n s.inputs) [] }
+    ensures none { s.edges ≡ None → bytes_of result ≡ [] }
+    ensures some { (e : EdgedOf) (es : List Bool) (x : InputsOf) → s.edges ≡ Some e → e.found ≡ bits_number es → e.states ≡ stable_bits x.lines → bytes_of result ≡ notice_written address n es x }
 {
-    if notice_due(n, s.edges) {
-        let states = inputs::stable_bits(s.inputs.lines);
-        return Some(notice_frame(address, n, states));
+    match s.edges {
+        Some(e) => {
+            if is_due(n, e) {
+                return Some(notice_frame(address, n, e.states));
+            }
+            None
+        }
+        None => None,
     }
-    None
 }
 
-// Debounce and counting, the notice, and one step of every pulse. Reads the sampling number and the notice's mask once each, and
-// gives them on (E3). No path of its own for a notice: two ways out would copy the settings.
+// Debounce and counting, the notice, one step of every pulse, and the links. Reads the sampling number and the notice's mask once each,
+// and gives them on (E3). No path of its own for a notice: two ways out would copy the settings.
 pub fn handle(m: Module, bits: u16) -> AfterSample
     ensures { out_of result ≡ sampled bits m }
 {
     let s = inputs::sample(m.settings.sampling, m.settings.modes, m.inputs, bits);
     let notice = notice(m.spinel.address, m.settings.notice, s);
     let pulsed = outputs::pulse_outputs(m.outputs);
+    let linked = linking::link_outputs(m.settings.links, s.edges, pulsed);
     let mut after = m;
     after.inputs = s.inputs;
-    after.outputs = pulsed;
+    after.outputs = linked;
     AfterSample { after, notice }
 }
 

@@ -2,7 +2,7 @@
 use mathlib.Core.List.{flat_map}
 use Rattle.lists.specs.Chunks.{chunks_of}
 use Rattle.model.specs.Text.{text_reply, text_notice}
-use Rattle.sampling.proofs.Laws.{bit_found}
+use Rattle.lists.proofs.Bits.{bit_found}
 use Rattle.sampling.proofs.text_notice.Goals as goal
 
 pub returns : goal.returns
