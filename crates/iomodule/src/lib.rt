@@ -1,4 +1,4 @@
-// The five calls: fresh, sample, temperature, spinel, modbus; what demands 1 and 3 say of them, and request E3.
+// The five calls: fresh, sample, temperature, spinel, modbus; what demands 1 and 3 say of them, and requests E3 and E8.
 #![tactic(auto)]
 
 ghost use Rattle.std.specs.Prelude.{◌≡◌, ◌≤◌, length};
@@ -11,6 +11,7 @@ ghost use Rattle.model.specs.Calls.{sample_call, temperature_call, spinel_call, 
 ghost use Rattle.model.specs.Demand1.{RefusalsHold};
 ghost use Rattle.model.specs.Cycles.{CyclesConserved, CyclesConservedFrom};
 ghost use Rattle.model.specs.Alone.{OneInputAlone};
+ghost use Rattle.model.specs.Linked.{LinksAside, LinksApart, PulsesEndByLinks};
 ghost use Rattle.sampling.specs.Parts.{bytes_of};
 
 use modbus::ModbusWire;
@@ -166,4 +167,22 @@ pub fn cycles_conserved_from()
 // E3: what samples make of an input goes by the sampling number and by that input alone. It does nothing.
 pub fn one_input_alone()
     ensures { OneInputAlone }
+{}
+
+// E8: of all that a sample changes and tells, only outputs go by links. It does nothing.
+#[tactic(auto, using(model::proofs::Linked::links_aside))]
+pub fn links_aside()
+    ensures { LinksAside }
+{}
+
+// E8: after any calls no output has a link and an active thermostat. It does nothing.
+#[tactic(auto, using(model::proofs::Linked::links_apart))]
+pub fn links_apart()
+    ensures { LinksApart }
+{}
+
+// E8: a sample ends a pulse by a link where the link acts, and nowhere else. It does nothing.
+#[tactic(auto, using(model::proofs::Linked::pulses_end_by_links))]
+pub fn pulses_end_by_links()
+    ensures { PulsesEndByLinks }
 {}
