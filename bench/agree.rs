@@ -49,7 +49,7 @@ impl Dice {
         1 + self.roll(most) as u8
     }
 
-    // Counters soon wrap. Runs are below the sampling number, or equal to it, as after it fell.
+    // Counters soon wrap. Runs are below the sampling number, or equal to it, as after it fell. A third has no links.
     fn module(&mut self) -> Module {
         let mut m = Module { sampling: self.sampling(), mask: self.roll(65536) as u16, ..Module::fresh() };
         m.format = if self.roll(8) == 0 { 0 } else { 0x61 };
@@ -60,6 +60,9 @@ impl Dice {
             m.modes[i] = self.roll(4) as u8;
             m.counters[i] = (self.roll(40) as u32).wrapping_neg();
             m.outputs[i] = Output { on: self.roll(2) == 0, left: self.roll(300) as u32 };
+        }
+        if self.roll(3) > 0 {
+            m.links = std::array::from_fn(|_| Link { input: 1 + self.roll(16) as u8, action: self.roll(5) as u8 });
         }
         m
     }

@@ -18,6 +18,13 @@ pub struct Preset {
     pub time: u8,
 }
 
+// The input whose edges drive an output, and how; action 0: no link.
+#[derive(Clone, Copy, Default)]
+pub struct Link {
+    pub input: u8,
+    pub action: u8,
+}
+
 #[derive(Clone, Copy, Default)]
 pub struct Thermostat {
     pub flags: u8,
@@ -41,7 +48,7 @@ pub struct Port {
     pub permitted: bool,
 }
 
-// A load, and the state that it starts from.
+// A load, and the state that it starts from; action 0: no links.
 pub struct Load {
     pub name: &'static str,
     pub noisy: bool,
@@ -49,11 +56,13 @@ pub struct Load {
     pub mode: u8,
     pub mask: u16,
     pub rest: u32,
+    pub action: u8,
 }
 
-pub const LOADS: [Load; 2] = [
-    Load { name: "typical", noisy: false, sampling: 20, mode: 3, mask: 0xFFFF, rest: 0 },
-    Load { name: "full", noisy: true, sampling: 1, mode: 3, mask: 0xFFFF, rest: 3_000_000 },
+pub const LOADS: [Load; 3] = [
+    Load { name: "typical", noisy: false, sampling: 20, mode: 3, mask: 0xFFFF, rest: 0, action: 0 },
+    Load { name: "full", noisy: true, sampling: 1, mode: 3, mask: 0xFFFF, rest: 3_000_000, action: 0 },
+    Load { name: "linked", noisy: true, sampling: 1, mode: 3, mask: 0xFFFF, rest: 3_000_000, action: 1 },
 ];
 
 pub struct Module {
@@ -63,6 +72,7 @@ pub struct Module {
     pub sampling: u8,
     pub outputs: [Output; 16],
     pub presets: [Preset; 16],
+    pub links: [Link; 16],
     pub thermostats: [Thermostat; 16],
     pub reading: Reading,
     pub last: Reading,
@@ -84,6 +94,7 @@ impl Module {
             sampling: 20,
             outputs: Default::default(),
             presets: Default::default(),
+            links: Default::default(),
             thermostats: Default::default(),
             reading: Reading::Fault,
             last: Reading::Fault,
@@ -97,19 +108,43 @@ impl Module {
     }
 
     // Every input counts by `mode`, the notice is on for the mask; the first four outputs pulse, the others for `rest` samples.
+    // By an action other than 0 each input drives the output of its number.
     pub fn start(l: &Load) -> Module {
         let mut outputs = [Output { on: true, left: l.rest }; 16];
         for o in &mut outputs[..4] {
             o.left = 3_000_000;
         }
+        let mut links = [Link::default(); 16];
+        if l.action != 0 {
+            links = std::array::from_fn(|i| Link { input: i as u8 + 1, action: l.action });
+        }
         let (modes, sampling, mask) = ([l.mode; 16], l.sampling, l.mask);
-        Module { modes, sampling, outputs, format: 0x61, mask, signature: 2, ..Module::fresh() }
+        Module { modes, sampling, outputs, links, format: 0x61, mask, signature: 2, ..Module::fresh() }
     }
 
     // Counters, outputs and the bytes of the notices, added up.
     pub fn sum(&self, written: u64) -> u64 {
         let left = self.counters.iter().zip(&self.outputs).map(|(c, o)| *c as u64 + o.left as u64 + o.on as u64);
         left.fold(written, u64::wrapping_add)
+    }
+
+    // An output whose link acts at these edges gets a state and loses its pulse; the others stay.
+    #[inline]
+    fn drive(&mut self, edges: u16) {
+        for (o, link) in self.outputs.iter_mut().zip(&self.links) {
+            if link.action == 0 || edges >> (link.input - 1) & 1 == 0 {
+                continue;
+            }
+            let risen = self.lines[link.input as usize - 1].stable;
+            let on = match link.action {
+                1 => risen,
+                2 => !risen,
+                3 if risen => true,
+                4 if risen => false,
+                _ => continue,
+            };
+            *o = Output { on, left: 0 };
+        }
     }
 
     // The refusal's number, or the length of the notice.
@@ -148,6 +183,9 @@ impl Module {
                     o.on = !o.on;
                 }
             }
+        }
+        if edges != 0 {
+            self.drive(edges);
         }
         if self.format != 0 && edges & self.mask != 0 {
             let states = self.lines.iter().enumerate().fold(0u16, |a, (i, l)| a | (l.stable as u16) << i);

@@ -17,7 +17,17 @@ use std::time::Instant;
 use tuned::Tuned;
 
 extern "C" {
-    fn load_play(noisy: bool, n: u32, sampling: u8, mode: u8, mask: u16, rest: u32, reply: *mut u8, len: usize) -> u64;
+    fn load_play(
+        noisy: bool,
+        n: u32,
+        sampling: u8,
+        mode: u8,
+        mask: u16,
+        rest: u32,
+        action: u8,
+        reply: *mut u8,
+        len: usize,
+    ) -> u64;
 }
 
 const SAMPLES: u32 = 2_000_000;
@@ -62,7 +72,9 @@ fn tuned(l: &Load) -> Answer {
 
 fn rattle(l: &Load) -> Answer {
     let mut reply = [0; 256];
-    let sum = unsafe { load_play(l.noisy, SAMPLES, l.sampling, l.mode, l.mask, l.rest, reply.as_mut_ptr(), 256) };
+    let sum = unsafe {
+        load_play(l.noisy, SAMPLES, l.sampling, l.mode, l.mask, l.rest, l.action, reply.as_mut_ptr(), 256)
+    };
     (sum, reply)
 }
 

@@ -38,6 +38,14 @@ pub struct Tuned {
     left: [u32; 16],
     steps: [u32; 16],
     soonest: u32,
+    // The outputs with a pulse.
+    pulsing: u32,
+    // The lines that drive some output. Row b of each four lines has the outputs that are linked to those with bit 1 in b.
+    driving: u32,
+    driven: [[u16; 16]; 4],
+    // The outputs whose links act at falling edges too, and those that get the opposite of their input's state.
+    both: u32,
+    opposite: u32,
     // The lines whose edges send the notice, and the notice of stable states that are all 0.
     telling: u32,
     notice: [u8; 11],
@@ -47,6 +55,8 @@ impl Form for Tuned {
     fn of(m: &Module) -> Tuned {
         let mut notice = [0x2A, 0x61, 0, 7, m.spinel.address, m.signature, 0x0D, 0, 0, 0, 0x0D];
         notice[9] = notice[..9].iter().fold(255, |a, b| a.wrapping_sub(*b));
+        let acts = |i: usize| (1..=4).contains(&m.links[i].action);
+        let source = |i: usize| 1u32 << (m.links[i].input - 1);
         let mut t = Tuned {
             stable: word(|i| m.lines[i].stable),
             runs: std::array::from_fn(|k| word(|i| m.lines[i].run >> k & 1 == 1)),
@@ -60,6 +70,14 @@ impl Form for Tuned {
             left: m.outputs.map(|o| o.left),
             steps: [0; 16],
             soonest: 0,
+            pulsing: 0,
+            driving: (0..16).filter(|i| acts(*i)).fold(0, |word, i| word | source(i)),
+            driven: std::array::from_fn(|four| {
+                let linked = |lines: u32| word(|i| acts(i) && lines & source(i) != 0) as u16;
+                std::array::from_fn(|row| linked((row as u32) << (four * 4)))
+            }),
+            both: word(|i| m.links[i].action == 1 || m.links[i].action == 2),
+            opposite: word(|i| m.links[i].action == 2 || m.links[i].action == 4),
             telling: if m.format == 0 { 0 } else { m.mask as u32 },
             notice,
         };
@@ -96,6 +114,9 @@ impl Form for Tuned {
         if edges == 0 {
             return Ok(0);
         }
+        if edges & self.driving != 0 {
+            self.drive(edges);
+        }
         // A rising edge counts as a falling one does, but for the lines that count at one kind alone.
         let selected = edges & (self.stable & self.single ^ self.falling);
         for i in 0..16 {
@@ -125,7 +146,34 @@ impl Tuned {
     fn end(&mut self) {
         self.on ^= word(|i| self.steps[i] > self.left[i]);
         self.steps = self.left.map(|l| l.min(1));
+        self.pulsing = word(|i| self.left[i] > 0);
         self.soonest = self.left.iter().copied().filter(|l| *l > 0).min().unwrap_or(0);
+    }
+
+    // The outputs that are linked to one of these lines.
+    #[inline]
+    fn linked(&self, lines: u32) -> u32 {
+        (0..4).fold(0, |word, four| word | self.driven[four][(lines >> (four * 4) & 15) as usize] as u32)
+    }
+
+    // Sets the outputs whose links act: a rising edge acts on all that it drives, a falling one on those of `both`.
+    #[inline]
+    fn drive(&mut self, edges: u32) {
+        let risen = self.linked(edges & self.stable);
+        let acting = risen | self.linked(edges & !self.stable) & self.both;
+        self.on = self.on & !acting | (risen ^ self.opposite) & acting;
+        if acting & self.pulsing != 0 {
+            self.stop(acting);
+        }
+    }
+
+    // Drops the pulses of these outputs, which are not inverted, and finds anew when the next one ends.
+    #[inline(never)]
+    fn stop(&mut self, outputs: u32) {
+        for i in (0..16).filter(|i| outputs >> i & 1 == 1) {
+            (self.left[i], self.steps[i]) = (0, 0);
+        }
+        self.end();
     }
 
     #[inline]

@@ -1,8 +1,10 @@
 -- Runs of generated samples.
-use Rattle.std.specs.Prelude.{ℕ, zero, suc, ◌+◌, ◌*◌, ◌/◌, ◌%◌, ◌^◌, Bool, true, cond, List, ◌++◌, length, replicate, ◌==◌, bit_xor, slice_index, slice_index_or}
+use Rattle.std.specs.Prelude.{ℕ, zero, suc, ◌+◌, ◌*◌, ◌/◌, ◌%◌, ◌^◌, Bool, true, cond, eqb, List, ◌++◌, length, replicate, ◌==◌, bit_xor, slice_index, slice_index_or}
 use Rattle.lists.specs.Data.{over}
+use Rattle.lists.specs.Mapi.{mapi}
+use Rattle.model.specs.declared.Link.{Link}
 use Rattle.model.specs.declared.Output.{Output}
-use Rattle.model.specs.State.{fresh_module, fresh_output, output, notice, with_modes, with_sampling, with_outputs, with_notice}
+use Rattle.model.specs.State.{fresh_module, fresh_output, fresh_link, output, link, notice, with_modes, with_sampling, with_links, with_outputs, with_notice}
 use Rattle.model.specs.Calls.{sample_call}
 use Rattle.load.specs.declared.Source.{Source}
 use Rattle.load.specs.declared.Played.{Played}
@@ -49,10 +51,15 @@ unfoldable pub buffer_many : ℕ → Bool → ℕ → Played → List ℕ → Li
 buffer_many room noisy zero p old = old
 buffer_many room noisy (suc n) p old = buffer_one room noisy (play_many room noisy n p) (buffer_many room noisy n p old)
 
--- every input counts by mode, the notice is on for the inputs of the mask; the first four outputs pulse, the others for `rest` samples
-unfoldable pub start_of : ℕ → ℕ → ℕ → ℕ → Played
-start_of sampling mode mask rest = record {
-  after = with_notice (with_outputs (with_sampling (with_modes fresh_module (replicate 16 mode)) sampling)
+-- each output linked to the input of its number; by action 0 none is
+unfoldable pub links_by : ℕ → List Link
+links_by action = cond (eqb action 0) (replicate 16 fresh_link) (mapi (λ i l. link (i + 1) action) (replicate 16 fresh_link))
+
+-- every input counts by mode and drives its output by action, the notice is on for the inputs of the mask; the first four outputs pulse, the
+-- others for `rest` samples
+unfoldable pub start_of : ℕ → ℕ → ℕ → ℕ → ℕ → Played
+start_of sampling mode mask rest action = record {
+  after = with_notice (with_outputs (with_links (with_sampling (with_modes fresh_module (replicate 16 mode)) sampling) (links_by action))
       (replicate 4 (output true 3000000) ++ replicate 12 (output true rest))) (notice 0x61 mask 2);
   source = record { seed = 12345; level = 0 };
   written = 0;

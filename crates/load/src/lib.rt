@@ -1,10 +1,11 @@
-// Runs of generated samples, typical and full load: their outcome is checked, and they are timed.
+// Runs of generated samples, typical, full and linked load: their outcome is checked, and they are timed.
 #![tactic(auto)]
 
 ghost use Rattle.std.specs.Prelude.{◌≡◌, length};
-ghost use Rattle.load.specs.Play.{next_seed, typical_next, noisy_next, source_next, play_one, buffer_one, play_many, buffer_many, start_of, left_by, summed};
+ghost use Rattle.load.specs.Play.{next_seed, typical_next, noisy_next, source_next, play_one, buffer_one, play_many, buffer_many, links_by, start_of, left_by, summed};
 
-use model::{Module, Notice, Output};
+use model::{Link, Module, Notice, Output};
+use std::array::from_fn;
 
 // Where the generator stands: its last number, and the sixteen bits of the last sample.
 #[derive(Clone, Copy)]
@@ -94,15 +95,30 @@ pub fn play(noisy: bool, n: u32, p: Played, reply: &mut [u8]) -> Played
     after
 }
 
-// The state to start from: every input counts by `mode` and tells by the mask; four pulses, and twelve of `rest` samples.
-pub fn start(sampling: u8, mode: u8, mask: u16, rest: u32) -> Played
-    ensures { result ≡ start_of sampling mode mask rest }
+// Each output linked to the input of its number; by action 0 none is.
+fn links_by(action: u8) -> [Link; 16]
+    ensures { result ≡ links_by action }
+{
+    if action == 0 {
+        return [Link::FRESH; 16];
+    }
+    from_fn(|i| Link {
+        input: i as u8 + 1,
+        action,
+    })
+}
+
+// The state to start from: every input counts by `mode`, tells by the mask and drives its output by `action` (0: no links); four
+// pulses, and twelve of `rest` samples.
+pub fn start(sampling: u8, mode: u8, mask: u16, rest: u32, action: u8) -> Played
+    ensures { result ≡ start_of sampling mode mask rest action }
 {
     let f = startup::fresh();
     // Through a variable: an array that is stored in a field of a field gets no proof.
     let mut settings = f.settings;
     settings.modes = [mode; 16];
     settings.sampling = sampling;
+    settings.links = links_by(action);
     let first = Output {
         on: true,
         left: 3_000_000,
@@ -161,10 +177,11 @@ pub extern "C" fn load_play(
     mode: u8,
     mask: u16,
     rest: u32,
+    action: u8,
     reply: &mut [u8],
 ) -> u64
-    ensures value { result ≡ summed (play_many (length reply.old) noisy n (start_of sampling mode mask rest)) }
-    ensures reply_after { reply.new ≡ buffer_many (length reply.old) noisy n (start_of sampling mode mask rest) reply.old }
+    ensures value { result ≡ summed (play_many (length reply.old) noisy n (start_of sampling mode mask rest action)) }
+    ensures reply_after { reply.new ≡ buffer_many (length reply.old) noisy n (start_of sampling mode mask rest action) reply.old }
 {
-    sum(play(noisy, n, start(sampling, mode, mask, rest), reply))
+    sum(play(noisy, n, start(sampling, mode, mask, rest, action), reply))
 }

@@ -5,4 +5,4 @@ use Rattle.load.proofs.start.Goals as goal
 
 pub returns : goal.returns
 unfolding start_of fresh_module
-returns c = rw (c.fresh-f.ensures, c.fill.ensures.after (λ y e. e))
+returns c = rw (c.fresh-f.ensures, c.links_by-settings.ensures, c.fill.ensures.after (λ y e. e))
