@@ -1,8 +1,9 @@
 -- One turn of the loop that reads a frame's bytes. Assumes nothing.
-use Prim.Native.Nat.{ℕ, ◌<◌, ◌≤◌}
+use Prim.Native.Nat.{ℕ, ◌+◌, ◌<◌, ◌≤◌}
 use mathlib.Core.Path.{◌≡◌, sym}
 use mathlib.Core.List.{List, [], ◌∷◌}
 use borrow.Author.Tests.{lt-ltb, le-ltb}
+use lib.ListN.{set}
 use Rattle.digits.specs.Reading.{hex}
 use Rattle.script.specs.Lines.{wrong, framed}
 use Rattle.script.specs.Results.{Frame, with_frame}
@@ -23,6 +24,7 @@ module _ (f : Frame) (k : ℕ) {p : List (List ℕ)} where
       unfolding framed
       frame_bad i = rw (e, lt-ltb f.len 300 h, le-ltb (hex 2 w) 256 i)
 
-      pub frame_goes : (b : ℕ) → b ≡ hex 2 w → b < 256 → framed (with_frame k (added f b)) q ≡ framed (with_frame k f) p
+      -- the byte stored behind the others
+      pub frame_goes : (b : ℕ) → b ≡ hex 2 w → b < 256 → framed (with_frame k (record { items = set f.items f.len b; len = f.len + 1 })) q ≡ framed (with_frame k f) p
       unfolding framed added
       frame_goes b i j = rw (e, lt-ltb f.len 300 h, sym i, lt-ltb b 256 j)

@@ -217,7 +217,10 @@ fn frame_of(s: &[u8]) -> Result<Frame, Reason>
         if 300 <= frame.len {
             return Err(Reason::FrameTooLong);
         }
-        frame = frame.push(byte_of(word)?);
+        let byte = byte_of(word)?;
+        // In place: a `push` for each byte copies the frame.
+        frame.items[frame.len] = byte;
+        frame.len += 1;
         rest = behind;
     }
     Ok(frame)

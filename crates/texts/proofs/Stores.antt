@@ -1,5 +1,5 @@
 -- Laws of the loops that store an answer's characters. Assumes nothing.
-use Prim.Native.Nat.{ℕ, ◌+◌, ◌-◌, ◌*◌, ◌<◌, ◌≤◌}
+use Prim.Native.Nat.{ℕ, ◌+◌, ◌-◌, ◌*◌, ◌/◌, ◌%◌, ◌<◌, ◌≤◌}
 use native.Mathlib.Numerals.{add-one}
 use native.Mathlib.Omega.{arith}
 use mathlib.Core.Path.{◌≡◌, refl, sym, ap, ◌∙◌}
@@ -9,7 +9,7 @@ use Rattle.std.proofs.lemmas.List.{nil_from_length}
 use lib.Dec.{eqb}
 use lib.ListN.{length, take, get_or, length-append, length-take}
 use lib.Seq.{take-suc, take-append_seam}
-use Rattle.digits.specs.Writing.{Numeral, written, decimal_text, hex_text, padded, numeral_of}
+use Rattle.digits.specs.Writing.{Numeral, character, written, decimal_text, hex_text, padded, numeral_of}
 use Rattle.digits.proofs.Characters.{push_held, append_held, length-decimal, length-written}
 use Rattle.script.specs.Words.{uncr}
 use Rattle.texts.specs.Texts.{Text, bytes_text, reply_characters, answer_characters, text_of}
@@ -28,9 +28,17 @@ pub push_numeral : (l m : List ℕ) {number : Numeral} {t : Text} {s : List ℕ}
 push_numeral l m h e f q = rw (f, shown m e) (append_held 772 l m h q)
 
 -- a blank and the two digits of a byte
-pub push_byte : (l : List ℕ) (b : ℕ) {pair : Numeral} {t : Text} {s : List ℕ} → length l + 2 < 772 → pair ≡ numeral_of (hex_text b) → s ≡ take pair.len pair.items → t ≡ text_of l → foldl added (added t 32) s ≡ text_of (l ++ 32 ∷ hex_text b)
-push_byte l b h e f q =
-    push_numeral (l ++ 32 ∷ []) (hex_text b) (simp (length-append, length-written 16 2 b) (omega arith)) e f (push_law l 32 (omega arith) q) ∙ ap text_of (append_assoc l (32 ∷ []) (hex_text b))
+pub push_byte : (l : List ℕ) (b : ℕ) {pair : Numeral} {t : Text} → length l + 2 < 772 → pair ≡ numeral_of (hex_text b) → t ≡ text_of l → added (added (added t 32) (get_or pair.items 0 0)) (get_or pair.items 1 0) ≡ text_of (l ++ 32 ∷ hex_text b)
+unfolding written padded
+push_byte l b {pair} {t} h e q =
+    let x = character (b / 16 % 16) in
+    let y = character (b % 16) in
+    let one : added t 32 ≡ text_of (l ++ 32 ∷ []) = push_law l 32 (omega arith) q in
+    let two : added (added t 32) x ≡ text_of ((l ++ 32 ∷ []) ++ x ∷ []) = push_law (l ++ 32 ∷ []) x (simp length-append (omega arith)) one in
+    let three : added (added (added t 32) x) y ≡ text_of (((l ++ 32 ∷ []) ++ x ∷ []) ++ y ∷ []) = push_law ((l ++ 32 ∷ []) ++ x ∷ []) y (simp length-append (omega arith)) two in
+    let same : ((l ++ 32 ∷ []) ++ x ∷ []) ++ y ∷ [] ≡ l ++ 32 ∷ x ∷ y ∷ [] =
+    append_assoc (l ++ 32 ∷ []) (x ∷ []) (y ∷ []) ∙ append_assoc l (32 ∷ []) (x ∷ y ∷ []) in
+    rw e (three ∙ ap text_of same)
 
 -- the bytes of a reply, one more
 bytes_snoc : (l : List ℕ) (b : ℕ) → bytes_text (l ++ b ∷ []) ≡ bytes_text l ++ 32 ∷ hex_text b

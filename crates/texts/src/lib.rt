@@ -3,6 +3,7 @@
 
 ghost use Rattle.std.specs.Prelude.{◌≡◌, take};
 ghost use Rattle.digits.specs.Writing.{decimal_text};
+ghost use Rattle.lists.specs.Bounded.{added};
 ghost use Rattle.texts.specs.Texts.{text_of, answer_text, answer_characters};
 
 use lists::Bounded;
@@ -18,6 +19,17 @@ fn number_text(n: u8) -> Text
     Text::empty(0).append(digits::decimal_text(u64::from(n)).as_slice())
 }
 
+// One character behind the others, as far as there is room; in place, since a `push` copies the text.
+#[tactic(auto, unfolding(lists::specs::Bounded::added))]
+fn put(out: &mut Text, x: u8)
+    ensures { out.new ≡ added out.old x }
+{
+    if out.len < 772 {
+        out.items[out.len] = x;
+        out.len += 1;
+    }
+}
+
 // The number that an answer carries, a blank and two hex digits for each byte of the reply, and a line feed. No reply has more
 // than 256 bytes.
 pub fn answer_text(refusal: u8, reply: &[u8]) -> Text
@@ -26,9 +38,13 @@ pub fn answer_text(refusal: u8, reply: &[u8]) -> Text
     let shown = &reply[..reply.len().min(256)];
     let mut out = number_text(refusal);
     for b in shown {
-        out = out.push(b' ').append(digits::hex_text(*b).as_slice());
+        let pair = digits::hex_text(*b);
+        put(&mut out, b' ');
+        put(&mut out, pair.items[0]);
+        put(&mut out, pair.items[1]);
     }
-    out.push(b'\n')
+    put(&mut out, b'\n');
+    out
 }
 
 // The number that an answer carries, a blank and the reply's characters without a CR at their end, and a line feed; without a

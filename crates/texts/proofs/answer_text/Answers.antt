@@ -28,7 +28,7 @@ loop-b-preserved c =
     let head = decimal_text c.args.refusal in
     let few : length (take i s) ≤ 255 = rw length-take (omega (arith, shown _ _ c.min.ensures, c.loop-b-test.true)) in
     let room : length (head ++ bytes_text (take i s)) + 2 < 772 = omega (arith, length-answer c.args.refusal 255 (take i s) (omega arith) few) in
-    c.append-out.ensures ∙ rw c.push.ensures (push_byte _ _ room c.hex_text.ensures c.as_slice.ensures c.loop-b.invariant) ∙ ap text_of (bytes_turn head s i c.loop-b-test.true)
+    rw (c.put-in-loop-b-2.ensures, c.put-in-loop-b.ensures, c.put.ensures) (push_byte _ _ room c.hex_text-pair.ensures c.loop-b.invariant) ∙ ap text_of (bytes_turn head s i c.loop-b-test.true)
 
 pub returns : goal.returns
 unfolding answer_text
