@@ -7,7 +7,7 @@ ghost use Rattle.model.specs.Call.{call, sample};
 ghost use Rattle.model.specs.Calls.{sample_call, temperature_call, spinel_call, Answered, run};
 ghost use Rattle.script.specs.Lines.{parsed_line};
 ghost use Rattle.script.specs.Results.{line_parsed};
-ghost use Rattle.player.specs.Answers.{frame_text, characters_text, notice_text, printed};
+ghost use Rattle.player.specs.Answers.{frame_text, characters_text, notice_text, printed, noticed};
 ghost use Rattle.player.specs.Scripts.{frame_call, in_turn, line_calls, lines, lines_calls, script_calls};
 
 use model::{Answer, Module};
@@ -22,22 +22,30 @@ struct Printed {
     text: Text,
 }
 
-// One sample, and the line of its notice.
-fn sample_text(m: Module, bits: u16) -> Printed
-    ensures { result ≡ printed (sample_call 256 bits m) (notice_text (sample_call 256 bits m)) }
+// The state after a sample, and the text of its notice, where there is one: most samples have none, and make no text.
+#[derive(Drop)]
+struct Noticed {
+    after: Module,
+    text: Option<Text>,
+}
+
+// One sample, and the line of its notice. Inlined into the loops of samples, as `play_sample` is.
+#[inline(always)]
+fn sample_text(m: Module, bits: u16) -> Noticed
+    ensures { noticed result ≡ printed (sample_call 256 bits m) (notice_text (sample_call 256 bits m)) }
 {
     let mut reply = [0u8; 256];
     let a = iomodule::sample(m, bits, &mut reply);
     if a.len == 0 {
-        return Printed {
+        return Noticed {
             after: a.after,
-            text: Text::empty(0),
+            text: None,
         };
     }
     let text = texts::answer_text(a.refusal, &reply[..a.len]);
-    Printed {
+    Noticed {
         after: a.after,
-        text,
+        text: Some(text),
     }
 }
 
@@ -86,17 +94,21 @@ fn characters_text(m: Module, frame: &[u8]) -> Printed
 }
 
 // What is printed has no contract: std's write_all promises nothing of it, and a write that fails is passed over.
-// The text that it is given has one.
+// The text that it is given has one. Not inlined, so that a loop of samples which print nothing stays short.
+#[inline(never)]
 fn print_text(rt: &impl Print, text: Text) {
     let _ = rt.write_all(text.as_slice());
 }
 
 // One sample, its notice printed.
+#[inline(always)]
 fn play_sample(rt: &impl Print, m: Module, bits: u16) -> Module
     ensures { result ≡ (sample_call 256 bits m).after }
 {
     let p = sample_text(m, bits);
-    print_text(rt, p.text);
+    if let Some(text) = p.text {
+        print_text(rt, text);
+    }
     p.after
 }
 

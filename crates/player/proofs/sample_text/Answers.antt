@@ -1,12 +1,10 @@
 -- `player::sample_text` meets its contract. Assumes nothing.
 use borrow.Author.Rules.{rules}
-use Rattle.digits.specs.Writing.{padded}
 use Rattle.player.proofs.Answers.{notice_printed, notice_none}
 use Rattle.player.proofs.sample_text.Goals as goal
 
 pub returns-then-a-eq0 : goal.returns-then-a-eq0
-unfolding padded
-returns-then-a-eq0 c = rw c.empty.ensures (notice_none c.sample-a.ensures c.if-a-eq0.true)
+returns-then-a-eq0 c = notice_none c.sample-a.ensures c.if-a-eq0.true
 
 pub returns : goal.returns
 returns c =
