@@ -96,7 +96,8 @@ fn frame_call<W: Wire>(m: Module, frame: &[u8], reply: &mut [u8]) -> Answer
     reply_out(wires::handle::<W>(m, frame), reply)
 }
 
-// The millisecond sample: sixteen bits, bit 0 for input 1.
+// The millisecond sample: sixteen bits, bit 0 for input 1. Inlined: a caller that makes many keeps the state in place.
+#[inline(always)]
 #[tactic(auto, unfolding(model::specs::Calls::sample_call))]
 pub fn sample(m: Module, bits: u16, reply: &mut [u8]) -> Answer
     ensures { Answered (sample_call (length reply.old) bits m) result reply.old reply.new }
@@ -126,7 +127,9 @@ pub fn temperature(m: Module, good: bool, tenths: i16) -> Answer
     }
 }
 
-// A frame on the Spinel port, text or binary by its first two bytes (E2).
+// A frame on the Spinel port, text or binary by its first two bytes (E2). Not inlined, nor is the next: in a loop of calls its
+// values would be cleared at each.
+#[inline(never)]
 #[tactic(auto, using(crate::proofs::Frames::spinel_room, crate::proofs::Frames::text_room))]
 pub fn spinel(m: Module, frame: &[u8], reply: &mut [u8]) -> Answer
     ensures { Answered (spinel_call (length reply.old) frame.now m) result reply.old reply.new }
@@ -138,6 +141,7 @@ pub fn spinel(m: Module, frame: &[u8], reply: &mut [u8]) -> Answer
 }
 
 // A frame on the Modbus port.
+#[inline(never)]
 #[tactic(auto, using(crate::proofs::Frames::modbus_room))]
 pub fn modbus(m: Module, frame: &[u8], reply: &mut [u8]) -> Answer
     ensures { Answered (modbus_call (length reply.old) frame.now m) result reply.old reply.new }

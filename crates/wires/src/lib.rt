@@ -62,6 +62,8 @@ fn answer<W: Wire>(own: u8, frame: &[u8], answer: Result<Data, Refusal>) -> Data
 }
 
 // A frame that passes 2 to 6: its port's permission ends, accepted or not, and the reply bears the address from before it.
+// Not inlined: a frame that fails one would pay for what a request needs.
+#[inline(never)]
 fn act<W: Wire>(m: Module, frame: &[u8]) -> Handled
     ensures { handling result ≡ handled_of (frame_acted W.wire frame.now m) }
 {
