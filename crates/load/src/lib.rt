@@ -83,7 +83,8 @@ fn play_one(noisy: bool, p: Played, reply: &mut [u8]) -> Played
     }
 }
 
-// n samples, one after another.
+// n samples, one after another. Inlined: a caller that asks for a part of the state keeps no more of it.
+#[inline(always)]
 pub fn play(noisy: bool, n: u32, p: Played, reply: &mut [u8]) -> Played
     ensures value { result ≡ play_many (length reply.old) noisy n p }
     ensures reply_after { reply.new ≡ buffer_many (length reply.old) noisy n p reply.old }
