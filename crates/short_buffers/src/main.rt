@@ -58,7 +58,8 @@ fn print_refusal(rt: &impl Print, refusal: u8) {
 // A blank and the two digits of each byte.
 fn print_bytes(rt: &impl Print, bytes: &[u8]) {
     for b in bytes {
-        let _ = print!(rt; " {:02X}", *b);
+        let pair = digits::hex_text(*b);
+        let _ = rt.write_all(&[b' ', pair.items[0], pair.items[1]]);
     }
 }
 
