@@ -1,5 +1,5 @@
 -- Answers about the whole state, as the code gives them, in the definitions' words: the number, the state after, the data.
-use Rattle.std.specs.Prelude.{ℕ, [], Result, Ok, Err}
+use Rattle.std.specs.Prelude.{ℕ, zero, suc, [], Result, Ok, Err}
 use Rattle.lists.specs.Data.{data_of}
 use Rattle.lists.specs.Data.{Data}
 use Rattle.encoding.specs.Answers.{Told}
@@ -23,6 +23,11 @@ served_of o = record { refusal = o.refusal; after = o.part; body = data_of o.rep
 abbrev pub outcome : Module → Result Served Refusal → Outcome
 outcome m (Ok s) = record { refusal = 0; after = s.after; body = s.body }
 outcome m (Err r) = record { refusal = number_of r; after = m; body = data_of [] }
+
+-- an answer by the number that refuses a request: then the module stays; 0, this is the module after, with these data
+abbrev pub settled : ℕ → Module → Module → Data → Outcome
+settled zero m after body = record { refusal = 0; after = after; body = body }
+settled (suc n) m after body = record { refusal = suc n; after = m; body = data_of [] }
 
 -- an answer that only reads
 abbrev pub told_about : Module → Told → Outcome
