@@ -191,3 +191,10 @@ pub fn refused_if(holds: bool, refusal: Refusal) -> Result<(), Refusal>
 {
     if holds { Err(refusal) } else { Ok(()) }
 }
+
+// The number of the first condition that holds, for numbers that are no `Refusal` too: this one's, or else what comes after it.
+pub fn first_number(holds: bool, number: u8, later: u8) -> u8
+    ensures { result ≡ cond holds number later }
+{
+    if holds { number } else { later }
+}

@@ -40,11 +40,7 @@ fn is_short(room: usize) -> bool
 fn no_room(m: Module) -> Answer
     ensures { result ≡ answer_of (silent 1 m) }
 {
-    Answer {
-        refusal: Refusal::ShortBuffer.number(),
-        len: 0,
-        after: m,
-    }
+    outcomes::silenced(Refusal::ShortBuffer.number(), m)
 }
 
 // Bytes to the lent buffer, by the one line that writes it; and how many they are.

@@ -6,11 +6,14 @@ ghost use Rattle.lists.specs.Data.{data_of};
 ghost use Rattle.model.specs.State.{with_counters, with_outputs, with_modes, with_sampling, with_presets, with_links, with_thermostats, with_notice, with_sum_tested, with_spinel, with_modbus};
 ghost use Rattle.model.specs.Refusals.{silent};
 ghost use Rattle.model.specs.Numbers.{number_of};
+ghost use Rattle.model.specs.Calls.{answer_of};
 ghost use Rattle.encoding.specs.Answers.{told};
 ghost use Rattle.outcomes.specs.Parts.{outcome, told_about, handling, handled_of};
 
 use lists::Data;
-use model::{Inputs, Link, Module, Notice, Output, Port, Preset, Refusal, Settings, Thermostat};
+use model::{
+    Answer, Inputs, Link, Module, Notice, Output, Port, Preset, Refusal, Settings, Thermostat,
+};
 
 // What an accepted instruction or function comes to: the state after, and the reply's data. A refused one leaves the state.
 #[derive(Drop)]
@@ -183,5 +186,16 @@ pub fn unheard(refusal: Refusal, m: Module) -> Handled
         refusal: Some(refusal),
         after,
         reply: encoding::empty(),
+    }
+}
+
+// The answer of a call that changes nothing and replies nothing, by any number.
+pub fn silenced(number: u8, m: Module) -> Answer
+    ensures { result ≡ answer_of (silent number m) }
+{
+    Answer {
+        refusal: number,
+        len: 0,
+        after: m,
     }
 }
