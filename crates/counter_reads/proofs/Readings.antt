@@ -2,9 +2,10 @@
 use Prim.Native.Nat.{ℕ, ◌+◌, ◌-◌}
 use native.Mathlib.Omega.{arith}
 use mathlib.Core.Path.{◌≡◌, refl, ◌∙◌}
-use mathlib.Core.Bool.{Bool, true, false, cond}
+use mathlib.Core.Bool.{Bool, true, false, cond, ◌&&◌, ◌||◌}
 use mathlib.Core.List.{List, [], ◌∷◌, map, foldl}
-use lib.ListN.{get_or}
+use lib.ListN.{length, get_or}
+use lib.Dec.{eqb}
 use Rattle.lists.specs.Tests.{within, all}
 use Rattle.lists.specs.Data.{data_of, extended}
 use Rattle.lists.specs.Numbers.{bytes}
@@ -37,14 +38,15 @@ pub named_own : (d : List ℕ) → asks_every d ≡ false → parameters d ≡ d
 unfolding asks_every parameters
 named_own d h = rw h
 
--- a single number 0 stands for numbers that are inputs'
-pub named_law : (d : List ℕ) → asks_every d ≡ true → true ≡ all low_six_number (parameters d)
+-- whether each parameter names an input: a single number 0 stands for numbers that do
+pub named_law : (d : List ℕ) → (asks_every d || all low_six_number d) ≡ all low_six_number (parameters d)
 unfolding asks_every parameters all within
-named_law d h = rw h (go (zeroes (get_or d 0 0)))
+named_law d = go (eqb (length d) 1 && eqb (number_in (get_or d 0 0)) 0) (zeroes (get_or d 0 0))
   where
-    go : (z : Bool) → true ≡ all low_six_number (cond z (map (λ n. 128 + n) every_number) every_number)
-    go true = refl
-    go false = refl
+    go : (b z : Bool) → (b || all low_six_number d) ≡ all low_six_number (cond b (cond z (map (λ n. 128 + n) every_number) every_number) d)
+    go true true = refl
+    go true false = refl
+    go false z = refl
 
 -- an allowed list's values have at most 256 bytes
 pub values_fit : (d cs : List ℕ) → items_of 1 d ≡ true → extended (data_of (counter_bits ∷ [])) (values_read (parameters d) cs) ≡ data_of (counter_bits ∷ values_read (parameters d) cs)

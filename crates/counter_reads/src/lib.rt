@@ -28,11 +28,11 @@ fn asks_every(d: &[u8]) -> bool
 }
 
 // Whether every parameter names an input.
-#[tactic(auto, using(crate::proofs::Readings::named_own, crate::proofs::Readings::named_law))]
+#[tactic(auto, using(crate::proofs::Readings::named_law))]
 fn all_named(d: &[u8]) -> bool
     ensures { result ≡ all low_six_number (parameters d.now) }
 {
-    asks_every(d) || number_lists::all_low_six(d)
+    asks_every(d) | number_lists::all_low_six(d)
 }
 
 // All sixteen parameters, with bit 7 if `p` has it.

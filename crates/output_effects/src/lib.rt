@@ -60,7 +60,7 @@ pub fn switch_at(os: [Output; 16], k: usize, on: bool, samples: u32) -> [Output;
 // Switching: what either port's entries come to --------------------------------------------
 
 // Whether no entry's output is held.
-fn are_free(holders: &Holders, es: &[Entry]) -> bool
+pub fn are_free(holders: &Holders, es: &[Entry]) -> bool
     ensures { result ≡ all (λ e. free_at holders.now.reading holders.now.thermostats e.number) es.now }
 {
     es.iter().all(|e| holders.is_free(e.number))

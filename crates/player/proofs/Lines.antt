@@ -22,7 +22,7 @@ use Rattle.script.specs.declared.Reason.{Reason}
 use Rattle.player.specs.Scripts.{lines, line_calls, lines_calls}
 
 -- calls after calls
-run_append : (cs ds : List Call) (m : Module) → run m (cs ++ ds) ≡ run (run m cs) ds
+pub run_append : (cs ds : List Call) (m : Module) → run m (cs ++ ds) ≡ run (run m cs) ds
 unfolding run
 run_append [] ds m = refl
 run_append (c ∷ cs) ds m = run_append cs ds (step m c).after

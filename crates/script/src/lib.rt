@@ -83,7 +83,7 @@ fn solids(s: &[u8]) -> usize
 }
 
 // How many bytes stand before the first that is `stop`, or before the end.
-fn stop_at(s: &[u8], stop: u8) -> usize
+pub fn stop_at(s: &[u8], stop: u8) -> usize
     ensures { result ≡ leading (other stop) s.now }
 {
     s.iter().position(|b| *b == stop).unwrap_or(s.len())
