@@ -10,7 +10,7 @@ use lib.Dec.{eqb}
 use lib.ListN.{length, take, get_or, length-append, length-take}
 use lib.Seq.{take-suc, take-append_seam}
 use Rattle.digits.specs.Writing.{Numeral, character, written, decimal_text, hex_text, padded, numeral_of}
-use Rattle.digits.proofs.Characters.{push_held, append_held, length-decimal, length-written}
+use Rattle.digits.proofs.Characters.{push_held, append_held, length-decimal}
 use Rattle.script.specs.Words.{uncr}
 use Rattle.texts.specs.Texts.{Text, bytes_text, reply_characters, answer_characters, text_of}
 use Rattle.lists.specs.Bounded.{added}
