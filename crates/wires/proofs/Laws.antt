@@ -47,3 +47,13 @@ acted_law w room f m x reply h e r =
     let told : reply ≡ data_of (frame_answered w own f o).reply = rw (served_whole room x o e h) at r in
     let by_value : reply ≡ cond all (data_of []) (data_of (w.replied own f o)) = told ∙ sym (both all [] (w.replied own f o)) in
     rw (by_value, e) (wire_answered w own f o (data_of (w.replied own f o)) refl)
+
+-- the same, whatever the state after is called
+pub acted_as : (w : Wire) (room : ℕ) (f : List ℕ) (m : Module) (x : Outcome) (reply : Data)
+    → length (judged (used_up w m) (request_of w f m)).reply ≤ room
+    → x ≡ served_of (judged (used_up w m) (request_of w f m))
+    → reply ≡ data_of (frame_answered w (w.port m).address f (done_of room x.after (told_in x))).reply
+    → (after : Module) → after ≡ x.after
+    → record { refusal = x.refusal; after = after; reply = reply } ≡ handled_of (frame_acted w f m)
+acted_as w room f m x reply h e r after same =
+    ap (λ (a : Module). record { refusal = x.refusal; after = a; reply = reply }) same ∙ acted_law w room f m x reply h e r
