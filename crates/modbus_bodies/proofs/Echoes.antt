@@ -26,6 +26,12 @@ pub written_law : (m : Module) (q : Request Module) (l b : List ℕ) (wrong : Bo
 written_law m q l b wrong x f e g =
     ap (λ (y : List ℕ). echoed y x) f ∙ ap (echoed b) e ∙ echo_law m q b ∙ write_passed m (answering b q) wrong g
 
+-- the same, whatever the answer to the write is called, and for the echo's own answer
+pub echoed_as : (m : Module) (q : Request Module) (l b : List ℕ) (wrong : Bool) (x : Outcome)
+    → l ≡ b → x ≡ served_of (judged m q) → ◌≡◌ {A = ℕ} 0 (cond wrong 8 0)
+    → (written : Outcome) → written ≡ x → (answer : Outcome) → answer ≡ echoed l written → answer ≡ served_of (judged m (refuse 8 wrong (answering b q)))
+echoed_as m q l b wrong x f e g written same answer h = h ∙ written_law m q l b wrong written f (same ∙ e) g
+
 -- a body that has them
 pub head_law : (b : List ℕ) → 4 ≤ length b → head_of b ≡ take 4 b
 head_law b h = rw (piece 3 0 b 0 (omega arith), piece 2 1 b 0 (omega arith), piece 1 2 b 0 (omega arith), piece 0 3 b 0 (omega arith))

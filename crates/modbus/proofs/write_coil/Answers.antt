@@ -1,5 +1,5 @@
 -- `modbus::write_coil` meets its contract. Assumes nothing.
-use Rattle.std.proofs.Common.{◌≡◌, ◌∙◌, refl, Err, [], ◌∷◌, ◌/◌, length, rules, arith}
+use Rattle.std.proofs.Common.{◌≡◌, ◌∙◌, refl, Err, [], ◌∷◌, ◌/◌, length, rules, tests, arith}
 use mathlib.Core.Bool.{not, ◌||◌}
 use lib.Dec.{eqb}
 use lib.Seq.{take_all}
@@ -12,7 +12,7 @@ use Rattle.model.specs.Modbus.{start_of, second_of, answering, coil_written}
 use Rattle.outcomes.specs.Parts.{outcome}
 use Rattle.modbus_bodies.specs.Parts.{head_of}
 use Rattle.modbus_bodies.proofs.Laws.{write_refused}
-use Rattle.modbus_bodies.proofs.Echoes.{head_law, written_law}
+use Rattle.modbus_bodies.proofs.Echoes.{echoed_as, head_law}
 use Rattle.modbus.proofs.Bodies.{four}
 use Rattle.modbus.proofs.write_coil.Goals as goal
 
@@ -32,7 +32,6 @@ returns c =
     let b = c.args.b.now in
     let q = refuse 11 (not (eqb (second_of b) 0xFF00 || eqb (second_of b) 0x0000)) (write_coils m.reading m.settings.thermostats (start_of b) (second_of b / 0xFF00 ∷ []) m.outputs) in
     let long = four b c.in_ok-refused_if.ensures in
-    c.echo.ensures m
-    ∙ written_law m (on_part (with_outputs m) q) (head_of b) b (not (eqb (length b) 4)) (outcome m c.write_coil.result) (head_law b (omega (arith, long)) ∙ take_all 4 b (le_of_eq long))
+    echoed_as m (on_part (with_outputs m) q) (head_of b) b (not (eqb (length b) 4)) (outcome m c.write_coil.result) (head_law b (omega (arith, long)) ∙ take_all 4 b (le_of_eq long))
     (rw (c.write_coil.ensures, c.word_from-v.ensures, c.word_from-a.ensures))
-    c.in_ok-refused_if.ensures
+    c.in_ok-refused_if.ensures _ (search (rules, tests)) _ (c.echo.ensures m)

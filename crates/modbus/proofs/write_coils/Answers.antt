@@ -1,5 +1,5 @@
 -- `modbus::write_coils` meets its contract. Assumes nothing.
-use Rattle.std.proofs.Common.{◌≡◌, ◌∙◌, ℕ, refl, Err, ◌+◌, ◌/◌, ◌%◌, min, take, drop, rules, arith}
+use Rattle.std.proofs.Common.{◌≡◌, ℕ, refl, Err, ◌+◌, ◌/◌, ◌%◌, min, take, drop, rules, tests, arith}
 use mathlib.Core.Bool.{cond}
 use Rattle.lists.proofs.ChunkLaws.{rest_whole}
 use Rattle.model.specs.Numbers.{number_of}
@@ -11,7 +11,7 @@ use Rattle.model.specs.Modbus.{start_of, second_of, count_wrong, bits_from, answ
 use Rattle.outcomes.specs.Parts.{outcome}
 use Rattle.modbus_bodies.specs.Parts.{head_of}
 use Rattle.modbus_bodies.proofs.Laws.{write_refused}
-use Rattle.modbus_bodies.proofs.Echoes.{head_law, written_law}
+use Rattle.modbus_bodies.proofs.Echoes.{echoed_as, head_law}
 use Rattle.modbus.proofs.Bodies.{eighth}
 use Rattle.modbus.proofs.write_coils.Goals as goal
 
@@ -32,7 +32,6 @@ returns c =
     let b = c.args.b.now in
     let q = write_coils m.reading m.settings.thermostats (start_of b) (bits_from 0 (second_of b) (drop 5 b)) m.outputs in
     let e : ◌≡◌ {A = ℕ} 0 (cond (count_wrong 1968 (c.from.result / 8 + min 1 (c.from.result % 8)) b) 8 0) = rw c.div_ceil-size.ensures at c.in_ok-count_refusal.ensures.number in
-    c.echo.ensures m
-    ∙ written_law m (on_part (with_outputs m) q) (head_of b) (take 4 b) (count_wrong 1968 ((second_of b + 7) / 8) b) (outcome m c.write_coils.result) (head_law b (omega (arith, c.in_ok-count_refusal.ensures.counted)))
+    echoed_as m (on_part (with_outputs m) q) (head_of b) (take 4 b) (count_wrong 1968 ((second_of b + 7) / 8) b) (outcome m c.write_coils.result) (head_law b (omega (arith, c.in_ok-count_refusal.ensures.counted)))
     (rw (c.write_coils.ensures, c.word_from-a.ensures, c.word_from-n.ensures, rest_whole 5 b))
-    (rw (eighth c.from.result, c.from.ensures, c.word_from-n.ensures) at e)
+    (rw (eighth c.from.result, c.from.ensures, c.word_from-n.ensures) at e) _ (search (rules, tests)) _ (c.echo.ensures m)

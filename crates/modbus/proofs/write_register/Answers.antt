@@ -1,5 +1,5 @@
 -- `modbus::write_register` meets its contract. Assumes nothing.
-use Rattle.std.proofs.Common.{◌≡◌, ◌∙◌, true, Err, [], ◌∷◌, length, rules, arith}
+use Rattle.std.proofs.Common.{◌≡◌, ◌∙◌, true, Err, [], ◌∷◌, length, rules, tests, arith}
 use mathlib.Core.Bool.{not}
 use lib.Dec.{eqb}
 use lib.Seq.{take_all}
@@ -9,7 +9,7 @@ use Rattle.model.specs.Modbus.{start_of, second_of, answering, registers_written
 use Rattle.outcomes.specs.Parts.{outcome}
 use Rattle.modbus_bodies.specs.Parts.{head_of}
 use Rattle.modbus_bodies.proofs.Laws.{write_refused}
-use Rattle.modbus_bodies.proofs.Echoes.{head_law, written_law}
+use Rattle.modbus_bodies.proofs.Echoes.{echoed_as, head_law}
 use Rattle.modbus.proofs.Bodies.{four, one_word}
 use Rattle.modbus.proofs.Ranges.{writes_listed}
 use Rattle.modbus.proofs.write_register.Goals as goal
@@ -30,7 +30,6 @@ returns c =
     let b = a.b.now in
     let q = registers_written a.permitted true (start_of b) (second_of b ∷ []) a.m in
     let long = four b c.in_ok-refused_if.ensures in
-    c.echo.ensures a.m
-    ∙ written_law a.m q (head_of b) b (not (eqb (length b) 4)) (outcome a.m c.write_group.result) (head_law b (omega (arith, long)) ∙ take_all 4 b (le_of_eq long))
+    echoed_as a.m q (head_of b) b (not (eqb (length b) 4)) (outcome a.m c.write_group.result) (head_law b (omega (arith, long)) ∙ take_all 4 b (le_of_eq long))
     (rw (c.write_group.ensures, c.word_from-a.ensures, rest_whole 2 b, one_word b long))
-    c.in_ok-refused_if.ensures
+    c.in_ok-refused_if.ensures _ (search (rules, tests)) _ (c.echo.ensures a.m)

@@ -1,5 +1,5 @@
 -- `modbus::write_registers` meets its contract. Assumes nothing.
-use Rattle.std.proofs.Common.{◌≡◌, ◌∙◌, ℕ, false, Err, ◌*◌, take, drop, rules, arith}
+use Rattle.std.proofs.Common.{◌≡◌, ℕ, false, Err, ◌*◌, take, drop, rules, tests, arith}
 use mathlib.Core.Bool.{cond}
 use Rattle.lists.proofs.ChunkLaws.{rest_whole}
 use Rattle.model.specs.Numbers.{number_of}
@@ -7,7 +7,7 @@ use Rattle.model.specs.Modbus.{start_of, second_of, count_wrong, words, answerin
 use Rattle.outcomes.specs.Parts.{outcome}
 use Rattle.modbus_bodies.specs.Parts.{head_of}
 use Rattle.modbus_bodies.proofs.Laws.{write_refused}
-use Rattle.modbus_bodies.proofs.Echoes.{head_law, written_law}
+use Rattle.modbus_bodies.proofs.Echoes.{echoed_as, head_law}
 use Rattle.modbus.proofs.Ranges.{writes_listed}
 use Rattle.modbus.proofs.write_registers.Goals as goal
 
@@ -28,7 +28,6 @@ returns c =
     let b = a.b.now in
     let q = registers_written a.permitted false (start_of b) (words (drop 5 b)) a.m in
     let e : ◌≡◌ {A = ℕ} 0 (cond (count_wrong 123 (2 * c.from-size.result) b) 8 0) = c.in_ok-count_refusal.ensures.number in
-    c.echo.ensures a.m
-    ∙ written_law a.m q (head_of b) (take 4 b) (count_wrong 123 (2 * second_of b) b) (outcome a.m c.write_group.result) (head_law b (omega (arith, c.in_ok-count_refusal.ensures.counted)))
+    echoed_as a.m q (head_of b) (take 4 b) (count_wrong 123 (2 * second_of b) b) (outcome a.m c.write_group.result) (head_law b (omega (arith, c.in_ok-count_refusal.ensures.counted)))
     (rw (c.write_group.ensures, c.word_from-a.ensures, rest_whole 5 b))
-    (rw (c.from-size.ensures, c.word_from-n.ensures) at e)
+    (rw (c.from-size.ensures, c.word_from-n.ensures) at e) _ (search (rules, tests)) _ (c.echo.ensures a.m)
