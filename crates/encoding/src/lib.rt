@@ -104,6 +104,7 @@ pub fn bits_of(bs: [bool; 16]) -> u16
 }
 
 // A 16-bit pattern read as two's complement.
+#[tactic(auto, using(crate::proofs::Words::signed_cast), unfolding(model::specs::Temperature::signed_of))]
 pub fn signed_of(n: u16) -> i16
     ensures { result ≡ signed_of n }
 {
